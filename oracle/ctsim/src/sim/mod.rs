@@ -1,0 +1,2 @@
+pub mod paxos_pipeline;
+pub mod pipeline;

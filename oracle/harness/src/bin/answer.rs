@@ -1,0 +1,139 @@
+//! Answers lines: one given as an argument, or all of standard input.
+
+use oracle::{run, Answer, Input};
+use std::io::{self, BufRead, BufWriter, Write};
+use std::process::ExitCode;
+
+const HELP: &str = "\
+usage: answer [--echo] [--full] [--rounds] [--reference] [LINE]
+
+Answers LINE, or every line of standard input, with ctsim's listing, `refused N`
+or `panic`. A line is
+  topology nodes second repeats round_slots|- loss seed P interval limit
+  rows nodes SET,SET,..|- repeats round_slots|- loss seed P interval limit
+with loss as 16 and each SET as 8 lowercase hexadecimal digits.
+
+  --echo       print `input LINE` before each answer
+  --full       after a listing: the count of all snapshots, the buffers' numbers,
+               each log's data, each node's pending terms with their votes
+  --rounds     after a listing: `round INDEX FIRST_SLOT` for each round
+  --reference  also run PaxosPipelineSim::run and compare its metrics and sums
+
+Status: 0 answered; 1 a line was unreadable, the Rust panicked or the reference
+differs (standard error says which line); 2 wrong use.
+";
+
+#[derive(Default)]
+struct Options {
+    echo: bool,
+    full: bool,
+    rounds: bool,
+    reference: bool,
+    line: Option<String>,
+}
+
+fn main() -> ExitCode {
+    let options = match options(std::env::args().skip(1)) {
+        Ok(Some(options)) => options,
+        Ok(None) => {
+            print!("{HELP}");
+            return ExitCode::SUCCESS;
+        }
+        Err(problem) => {
+            eprintln!("answer: {problem}\n\n{HELP}");
+            return ExitCode::from(2);
+        }
+    };
+    // The answer carries the message; the default hook would print it twice.
+    std::panic::set_hook(Box::new(|_| {}));
+    match answer_all(&options) {
+        Ok(true) => ExitCode::SUCCESS,
+        Ok(false) => ExitCode::FAILURE,
+        Err(problem) => {
+            eprintln!("answer: {problem}");
+            ExitCode::from(2)
+        }
+    }
+}
+
+/// `None`: help is asked for.
+fn options(arguments: impl Iterator<Item = String>) -> Result<Option<Options>, String> {
+    let mut options = Options::default();
+    for argument in arguments {
+        match argument.as_str() {
+            "--help" | "-h" => return Ok(None),
+            "--echo" => options.echo = true,
+            "--full" => options.full = true,
+            "--rounds" => options.rounds = true,
+            "--reference" => options.reference = true,
+            _ if argument.starts_with('-') => return Err(format!("unknown option: {argument}")),
+            _ if options.line.is_some() => return Err("more than one line: quote the line".into()),
+            _ => options.line = Some(argument),
+        }
+    }
+    Ok(Some(options))
+}
+
+/// Whether every line was read and answered without a fault.
+fn answer_all(options: &Options) -> io::Result<bool> {
+    let mut output = BufWriter::new(io::stdout().lock());
+    let mut faultless = true;
+    let mut number = 0;
+    for line in lines(options) {
+        number += 1;
+        for fault in print_answer(options, &line?, &mut output)? {
+            eprintln!("answer: line {number}: {fault}");
+            faultless = false;
+        }
+    }
+    if number == 0 {
+        return Err(io::Error::other("there is no line to answer"));
+    }
+    output.flush()?;
+    Ok(faultless)
+}
+
+/// The line given as an argument, up to its first newline, or those of standard input.
+fn lines(options: &Options) -> Box<dyn Iterator<Item = io::Result<Vec<u8>>>> {
+    match &options.line {
+        Some(line) => {
+            let first = line.split('\n').next().unwrap_or_default();
+            Box::new(std::iter::once(Ok(first.into())))
+        }
+        None => Box::new(io::stdin().lock().split(b'\n')),
+    }
+}
+
+/// Prints one answer and gives back what was wrong.
+fn print_answer(
+    options: &Options,
+    line: &[u8],
+    output: &mut impl Write,
+) -> io::Result<Vec<String>> {
+    let mut faults = Vec::new();
+    if options.echo {
+        writeln!(output, "input {}", String::from_utf8_lossy(line))?;
+    }
+    let Some(input) = Input::parse(line) else {
+        write!(output, "{}", Answer::Refused(12))?;
+        return Ok(vec!["unreadable".into()]);
+    };
+    let answer = run(&input);
+    write!(output, "{answer}")?;
+    match &answer {
+        Answer::Refused(_) => {}
+        Answer::Panicked(message) => faults.push(format!("the Rust panicked: {message}")),
+        Answer::Ran(summary) => {
+            if options.full {
+                write!(output, "{}", summary.full())?;
+            }
+            if options.rounds {
+                write!(output, "{}", summary.rounds())?;
+            }
+        }
+    }
+    if options.reference {
+        faults.extend(oracle::reference_difference(&input));
+    }
+    Ok(faults)
+}

@@ -1,0 +1,66 @@
+//! Prints lines for `answer`.
+
+use std::fmt::Display;
+use std::io::{self, BufWriter, Write};
+use std::process::ExitCode;
+
+const HELP: &str = "\
+usage: inputs small
+       inputs random SEED COUNT
+       inputs broken SEED COUNT
+
+Prints lines for `answer`.
+  small   every topology of 2 to 4 nodes and the rows of every labelled graph of
+          that size, with repeats 1 to 3, round slots absent and 0 to 4, P 0 to 3,
+          loss 0 and 0.5
+  random  COUNT accepted lines around the limits of document 01's questions
+  broken  COUNT lines with values beyond a limit or unreadable, a few still accepted
+The same SEED gives the same lines.
+";
+
+fn main() -> ExitCode {
+    let arguments: Vec<String> = std::env::args().skip(1).collect();
+    if arguments
+        .iter()
+        .any(|argument| argument == "--help" || argument == "-h")
+    {
+        print!("{HELP}");
+        return ExitCode::SUCCESS;
+    }
+    match print_lines(&arguments) {
+        Ok(()) => ExitCode::SUCCESS,
+        Err(problem) => {
+            eprintln!("inputs: {problem}");
+            ExitCode::from(2)
+        }
+    }
+}
+
+fn print_lines(arguments: &[String]) -> Result<(), String> {
+    let arguments: Vec<&str> = arguments.iter().map(String::as_str).collect();
+    match arguments[..] {
+        ["small"] => write_all(oracle::small()),
+        ["random", seed, count] => {
+            let count = number("COUNT", count)? as usize;
+            write_all(oracle::random(number("SEED", seed)?).take(count))
+        }
+        ["broken", seed, count] => {
+            let count = number("COUNT", count)? as usize;
+            write_all(oracle::broken(number("SEED", seed)?).take(count))
+        }
+        _ => Err(format!("wrong arguments\n\n{HELP}")),
+    }
+}
+
+fn number(name: &str, text: &str) -> Result<u64, String> {
+    text.parse()
+        .map_err(|_| format!("{name} is no number below 2^64: {text}"))
+}
+
+fn write_all<T: Display>(lines: impl Iterator<Item = T>) -> Result<(), String> {
+    let mut output = BufWriter::new(io::stdout().lock());
+    for line in lines {
+        writeln!(output, "{line}").map_err(|problem| problem.to_string())?;
+    }
+    output.flush().map_err(|problem| problem.to_string())
+}

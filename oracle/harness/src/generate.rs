@@ -1,0 +1,369 @@
+//! Inputs to compare on: a list of small ones, random ones around the limits of
+//! document 01's questions, and broken ones.
+
+use crate::answer::{run, Answer};
+use crate::input::{Graph, Input, GRID, TREE};
+use rand::{RngCore, SeedableRng};
+use rand_chacha::ChaCha8Rng;
+
+const TOPOLOGIES: [u64; 6] = [1, 2, 3, 4, 5, 6];
+/// 0, minus 0, 5e-324, 2^-53, 0.1, 0.5 and the greatest f64 below 1.
+const LOSS_RATES: [u64; 7] = [
+    0,
+    1 << 63,
+    1,
+    0x3ca0_0000_0000_0000,
+    0x3fb9_9999_9999_999a,
+    0x3fe0_0000_0000_0000,
+    0x3fef_ffff_ffff_ffff,
+];
+const ONE: u64 = 0x3ff0_0000_0000_0000;
+
+/// Every graph up to 4 nodes with small values of the rest.
+pub fn small() -> impl Iterator<Item = Input> {
+    let half = 0.5f64.to_bits();
+    small_graphs().into_iter().flat_map(move |graph| {
+        let mut inputs = Vec::new();
+        for flood_repeats in 1..=3 {
+            for round_slots in [None, Some(0), Some(1), Some(2), Some(3), Some(4)] {
+                for num_proposals in 0..=3 {
+                    for (loss_rate, seed) in [(0, 0), (half, 0), (half, 1)] {
+                        for (snapshot_interval, max_slots) in [(1, 5), (7, u64::MAX)] {
+                            let graph = graph.clone();
+                            inputs.push(Input {
+                                graph,
+                                flood_repeats,
+                                round_slots,
+                                loss_rate,
+                                seed,
+                                num_proposals,
+                                snapshot_interval,
+                                max_slots,
+                            });
+                        }
+                    }
+                }
+            }
+        }
+        inputs
+    })
+}
+
+/// All topologies of 2 to 4 nodes, and the rows of all labelled graphs of that size.
+fn small_graphs() -> Vec<Graph> {
+    let mut graphs = Vec::new();
+    for nodes in 2..=4 {
+        let topology = |(number, nodes, second)| Graph::Topology {
+            number,
+            nodes,
+            second,
+        };
+        graphs.extend([1, 2, 3, 5].map(|number| topology((number, nodes, 0))));
+        graphs.extend((0..=4).map(|second| topology((TREE, nodes, second))));
+        let sides = (1..=nodes).filter(|side| nodes % side == 0);
+        graphs.extend(sides.map(|side| topology((GRID, side, nodes / side))));
+        let links = nodes * (nodes - 1) / 2;
+        graphs.extend((0..1u64 << links).map(|set| labelled_graph(nodes as usize, set)));
+    }
+    graphs
+}
+
+/// The graph of n nodes that has the k-th possible link when bit k is set.
+fn labelled_graph(n: usize, set: u64) -> Graph {
+    let mut k = 0;
+    link_graph(n, |_, _| {
+        k += 1;
+        set >> (k - 1) & 1 == 1
+    })
+}
+
+fn link_graph(n: usize, mut linked: impl FnMut(usize, usize) -> bool) -> Graph {
+    let mut rows = vec![0; n];
+    for i in 0..n {
+        for j in 0..i {
+            if linked(i, j) {
+                rows[i] |= 1 << j;
+                rows[j] |= 1 << i;
+            }
+        }
+    }
+    Graph::Rows {
+        nodes: n as u64,
+        rows,
+    }
+}
+
+/// Accepted inputs without end, the same for the same seed.
+pub fn random(seed: u64) -> impl Iterator<Item = Input> {
+    let mut source = Source(ChaCha8Rng::seed_from_u64(seed));
+    std::iter::from_fn(move || Some(source.input()))
+}
+
+/// Lines without end that have one or two values beyond a limit or can't be read;
+/// a few of them are accepted all the same, as leading zeros are.
+pub fn broken(seed: u64) -> impl Iterator<Item = String> {
+    let mut source = Source(ChaCha8Rng::seed_from_u64(seed));
+    std::iter::from_fn(move || Some(source.broken_line()))
+}
+
+/// Choices made from one stream of draws.
+struct Source(ChaCha8Rng);
+
+impl Source {
+    /// A number below `bound`.
+    fn below(&mut self, bound: u64) -> u64 {
+        self.0.next_u64() % bound
+    }
+
+    fn pick<T: Copy>(&mut self, items: &[T]) -> T {
+        items[self.below(items.len() as u64) as usize]
+    }
+
+    /// One of the limits, or with one chance in three a number from `low` to `high`.
+    fn around(&mut self, limits: &[u64], low: u64, high: u64) -> u64 {
+        if self.below(3) == 0 {
+            low + self.below(high - low + 1)
+        } else {
+            self.pick(limits)
+        }
+    }
+
+    fn input(&mut self) -> Input {
+        let mut input = Input {
+            graph: if self.below(3) == 0 {
+                self.rows()
+            } else {
+                self.topology()
+            },
+            flood_repeats: self.around(&[1, 1, 2, 63, 64], 1, 8),
+            round_slots: self.round_slots(),
+            loss_rate: self.loss_rate(),
+            seed: self.seed(),
+            num_proposals: self.around(&[0, 1, 2, 63, 64], 0, 64),
+            snapshot_interval: self.around(&[1, 2, 1 << 63, u64::MAX], 1, 100),
+            max_slots: u64::MAX,
+        };
+        input.max_slots = self.max_slots(&input);
+        input
+    }
+
+    fn nodes(&mut self) -> u64 {
+        self.around(&[2, 3, 31, 32], 2, 32)
+    }
+
+    fn topology(&mut self) -> Graph {
+        let number = self.pick(&TOPOLOGIES);
+        if number == GRID {
+            let nodes = self.pick(&[1, 2, 3, 4, 5, 8, 16, 31, 32]);
+            let least = if nodes == 1 { 2 } else { 1 };
+            let second = least + self.below(32 / nodes - least + 1);
+            return Graph::Topology {
+                number,
+                nodes,
+                second,
+            };
+        }
+        let nodes = self.nodes();
+        let second = if number == TREE {
+            self.around(&[0, 1, 2, 31, 32], 0, 32)
+        } else {
+            0
+        };
+        Graph::Topology {
+            number,
+            nodes,
+            second,
+        }
+    }
+
+    fn rows(&mut self) -> Graph {
+        let n = self.nodes() as usize;
+        let mut graph = match self.below(4) {
+            0 => self.tree_with_links(n),
+            1 => self.two_parts(n),
+            _ => self.any_links(n),
+        };
+        if let Graph::Rows { rows, .. } = &mut graph {
+            if self.below(8) == 0 {
+                rows.push(self.0.next_u64() as u32);
+            }
+        }
+        graph
+    }
+
+    /// Connected: each node is joined to one before it, and a few links more.
+    fn tree_with_links(&mut self, n: usize) -> Graph {
+        let joined: Vec<usize> = (0..n as u64)
+            .map(|i| self.below(i.max(1)) as usize)
+            .collect();
+        let rare = self.pick(&[4, 16, 1 << 32]);
+        link_graph(n, |i, j| joined[i] == j || self.below(rare) == 0)
+    }
+
+    /// Unconnected: no link joins the nodes below a place with those from it on.
+    fn two_parts(&mut self, n: usize) -> Graph {
+        let place = 1 + self.below(n as u64 - 1) as usize;
+        let rare = self.pick(&[1, 2]);
+        link_graph(n, |i, j| {
+            (i < place) == (j < place) && self.below(rare) == 0
+        })
+    }
+
+    /// Connected or not: from every link down to none.
+    fn any_links(&mut self, n: usize) -> Graph {
+        let rare = self.pick(&[1, 2, 4, 8, 16, 1 << 32]);
+        link_graph(n, |_, _| self.below(rare) == 0)
+    }
+
+    fn round_slots(&mut self) -> Option<u64> {
+        if self.below(3) == 0 {
+            None
+        } else {
+            Some(self.around(&[0, 1, 2, 3, 64, 4095, 4096], 0, 100))
+        }
+    }
+
+    fn loss_rate(&mut self) -> u64 {
+        match self.below(4) {
+            0 => (self.below(1 << 53) as f64 / (1u64 << 53) as f64).to_bits(),
+            1 => self.below(ONE),
+            _ => self.pick(&LOSS_RATES),
+        }
+    }
+
+    fn seed(&mut self) -> u64 {
+        let any = self.0.next_u64();
+        self.pick(&[0, 1, u64::MAX, any, any])
+    }
+
+    fn max_slots(&mut self, unlimited: &Input) -> u64 {
+        match self.below(8) {
+            0 | 1 => self.round_end(unlimited),
+            2 => self.around(&[0, 1, 2, 1000, 5000], 0, 200),
+            _ => u64::MAX,
+        }
+    }
+
+    /// A slot beside the end of one of the run's rounds.
+    fn round_end(&mut self, unlimited: &Input) -> u64 {
+        let Answer::Ran(summary) = run(unlimited) else {
+            return u64::MAX;
+        };
+        let ends = [&summary.round_starts[1..], &[summary.slots]].concat();
+        let end = self.pick(&ends);
+        self.pick(&[end.saturating_sub(1), end, end + 1])
+    }
+}
+
+/// Broken lines.
+impl Source {
+    fn broken_line(&mut self) -> String {
+        let mut input = self.input();
+        if self.below(4) == 0 {
+            return self.unreadable(&input.to_string());
+        }
+        for _ in 0..1 + self.below(2) {
+            self.break_value(&mut input);
+        }
+        input.to_string()
+    }
+
+    fn break_value(&mut self, input: &mut Input) {
+        match self.below(8) {
+            0 => input.flood_repeats = self.pick(&[0, 65, 1 << 32, (1 << 32) + 1, u64::MAX]),
+            1 => input.round_slots = Some(self.pick(&[4097, u64::MAX])),
+            2 => input.loss_rate = self.bad_loss_rate(),
+            3 => input.num_proposals = self.pick(&[65, 1 << 32, u64::MAX]),
+            4 => input.snapshot_interval = 0,
+            _ => self.break_graph(&mut input.graph),
+        }
+    }
+
+    /// 1, 2, infinity, NaNs, and numbers below zero.
+    fn bad_loss_rate(&mut self) -> u64 {
+        let rates = [
+            1.0,
+            2.0,
+            f64::INFINITY,
+            f64::NAN,
+            -0.5,
+            -5e-324,
+            f64::NEG_INFINITY,
+        ];
+        let rate = self.pick(&rates).to_bits();
+        let any = ONE + self.below(u64::MAX - ONE);
+        let quiet_nan = u64::MAX;
+        self.pick(&[rate, rate, quiet_nan, any | 1])
+    }
+
+    fn break_graph(&mut self, graph: &mut Graph) {
+        match graph {
+            Graph::Rows { nodes, rows } => {
+                if self.below(4) == 0 {
+                    *nodes = self.pick(&[0, 1, 33, u64::MAX]);
+                } else {
+                    self.break_rows(*nodes, rows);
+                }
+            }
+            Graph::Topology {
+                number,
+                nodes,
+                second,
+            } => match self.below(3) {
+                0 => *number = self.pick(&[0, 7, u64::MAX]),
+                1 => *nodes = self.pick(&[0, 1, 33, 1 << 32, u64::MAX]),
+                _ => *second = self.pick(&[0, 1, 32, 33, 1 << 32, u64::MAX]),
+            },
+        }
+    }
+
+    /// One bit that should not be as it is, or a set too few.
+    fn break_rows(&mut self, nodes: u64, rows: &mut Vec<u32>) {
+        if rows.is_empty() {
+            return;
+        }
+        let at = self.below(rows.len() as u64) as usize;
+        match self.below(4) {
+            0 => rows.truncate(at),
+            1 => rows[at] ^= 1 << at.min(31),
+            2 => rows[at] ^= 1 << self.below(32),
+            _ => rows[at] |= 1 << nodes.min(31),
+        }
+    }
+
+    /// A line with one field, or one space, spoiled.
+    fn unreadable(&mut self, line: &str) -> String {
+        let mut fields: Vec<String> = line.split(' ').map(String::from).collect();
+        let at = self.below(fields.len() as u64) as usize;
+        let field = fields[at].clone();
+        fields[at] = match self.below(12) {
+            0 => String::new(),
+            1 => format!("{field} "),
+            2 => format!("{field}\t"),
+            3 => format!("+{field}"),
+            4 => format!("-{field}"),
+            5 => "-".into(),
+            6 => field.to_uppercase(),
+            7 => format!("0{field}"),
+            8 => format!("{field:0>20}"),
+            9 => format!("{field:0>21}"),
+            10 => self
+                .pick(&["18446744073709551616", "99999999999999999999", "1.0", "é"])
+                .into(),
+            _ => return self.spoil_line(line),
+        };
+        fields.join(" ")
+    }
+
+    fn spoil_line(&mut self, line: &str) -> String {
+        let (short, _) = line.rsplit_once(' ').unwrap_or((line, ""));
+        match self.below(6) {
+            0 => String::new(),
+            1 => short.into(),
+            2 => format!("{line} 0"),
+            3 => format!(" {line}"),
+            4 => format!("{line}\r"),
+            _ => line.replace(' ', ","),
+        }
+    }
+}

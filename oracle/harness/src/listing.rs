@@ -1,0 +1,90 @@
+//! Document 01's listing, and what can be printed after it.
+
+use crate::answer::{Answer, Summary};
+use std::fmt;
+
+impl fmt::Display for Answer {
+    fn fmt(&self, f: &mut fmt::Formatter) -> fmt::Result {
+        match self {
+            Answer::Refused(number) => writeln!(f, "refused {number}"),
+            Answer::Ran(summary) => summary.fmt(f),
+            Answer::Panicked(_) => writeln!(f, "panic"),
+        }
+    }
+}
+
+impl fmt::Display for Summary {
+    fn fmt(&self, f: &mut fmt::Formatter) -> fmt::Result {
+        let Summary {
+            nodes,
+            rounds,
+            slots,
+            ended,
+            listen,
+            flood,
+            sleep,
+            ..
+        } = self;
+        writeln!(
+            f,
+            "nodes {nodes} rounds {rounds} slots {slots} ended {ended}"
+        )?;
+        writeln!(f, "listen {listen} flood {flood} sleep {sleep}")?;
+        write!(f, "links {} {}", self.rx_attempts, self.rx_success)?;
+        write!(
+            f,
+            " floods {} {}",
+            self.flood_rounds, self.flood_nodes_total
+        )?;
+        write!(f, " {}", self.flood_nodes_covered)?;
+        writeln!(f, " recovery {} {}", self.nacks_sent, self.piggybacks_sent)?;
+        for r in &self.records {
+            writeln!(f, "proposal {} {} {} {}", r.id, r.start, r.end, r.latency)?;
+        }
+        for s in &self.snapshots {
+            writeln!(f, "snapshot{}", spaced(s))?;
+        }
+        for (i, log) in self.logs.iter().enumerate() {
+            writeln!(f, "log {i}{}", spaced(log))?;
+        }
+        Ok(())
+    }
+}
+
+impl Summary {
+    /// The count of all snapshots, the buffers' numbers and the nodes' last states.
+    pub fn full(&self) -> String {
+        let records = self.records.iter().flat_map(|r| [r.id, r.start, r.end]);
+        let counts = self.logs.iter().map(Vec::len);
+        let last = self
+            .last_accepted
+            .iter()
+            .map(|t| t.map_or("-".into(), |t| t.to_string()));
+        let mut text = format!("snapshots {}\n", self.snapshot_count);
+        text += &format!("records{}\n", spaced(records));
+        text += &format!("counts{}\n", spaced(counts));
+        text += &format!("last{}\n", spaced(last));
+        for (i, data) in self.data.iter().enumerate() {
+            text += &format!("data {i}{}\n", spaced(data));
+        }
+        for (i, pending) in self.pending.iter().enumerate() {
+            let votes = pending
+                .iter()
+                .map(|p| format!("{}:{:08x}", p.term, p.votes));
+            text += &format!("pending {i}{}\n", spaced(votes));
+        }
+        text
+    }
+
+    /// The first slot of each round.
+    pub fn rounds(&self) -> String {
+        let starts = self.round_starts.iter().enumerate();
+        starts
+            .map(|(i, start)| format!("round {i} {start}\n"))
+            .collect()
+    }
+}
+
+fn spaced<T: fmt::Display>(items: impl IntoIterator<Item = T>) -> String {
+    items.into_iter().map(|item| format!(" {item}")).collect()
+}
