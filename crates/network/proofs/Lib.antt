@@ -1,5 +1,15 @@
--- Lemmas that several proofs of the crate use.
-pub mod Fractions
-pub mod Stream
+-- The laws that several proofs and the crates above cite.
 pub mod Tables
 pub mod Words
+pub mod Stream
+pub mod Fractions
+pub mod Sets
+pub mod Rows
+pub mod Within
+pub mod Spread
+pub mod Reach
+pub mod Distances
+pub mod Checks
+pub mod Topologies
+pub mod Grids
+pub mod Starred

@@ -5,3 +5,8 @@ pub mod Seed
 pub mod ChaCha
 pub mod Draws
 pub mod Reception
+pub mod Graph
+pub mod Questions
+pub mod Topology
+pub mod Builders
+pub mod Distance

@@ -3,6 +3,6 @@ use Prim.Native.Nat.{ℕ, zero, suc}
 use mathlib.Core.List.{List, [], _∷_}
 
 -- f 0, f 1, .. f (n - 1)
-unfoldable pub tabulate : ℕ → (ℕ → ℕ) → List ℕ
+unfoldable pub tabulate : {A : Type 0} → ℕ → (ℕ → A) → List A
 tabulate zero f = []
 tabulate (suc n) f = f zero ∷ tabulate n (λ (i : ℕ). f (suc i))

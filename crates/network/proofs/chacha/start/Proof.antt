@@ -46,7 +46,7 @@ array-read-t40 c = search needs
 
 returns : tie.Need-returns
 unfolding start tabulate
-returns c = ap₂ (λ (k l : List ℕ). (0x61707865 ∷ 0x3320646e ∷ 0x79622d32 ∷ 0x6b206574 ∷ []) ++ (k ++ l)) (sym (by-places 8 (c .args .t1) (search needs))) (sym (by-places 4 (c .args .t2) (search needs)))
+returns c = ap₂ (λ (k l : List ℕ). (0x61707865 ∷ 0x3320646e ∷ 0x79622d32 ∷ 0x6b206574 ∷ []) ++ (k ++ l)) (sym (by-places 8 0 (c .args .t1) (search needs))) (sym (by-places 4 0 (c .args .t2) (search needs)))
 
 pub start-spec : {M : Type 1} → statement M
 start-spec =

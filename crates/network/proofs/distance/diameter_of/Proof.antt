@@ -1,0 +1,55 @@
+-- `network::distance::diameter_of` meets its contract: after a turns it holds the greatest eccentricity of the nodes below a.
+-- Assumes nothing.
+use borrow.Author.Needs.{needs}
+use mathlib.Core.Path.{_≡_, refl, subst, _∙_}
+use mathlib.Core.Logic.{⊎-elim}
+use Prim.Native.Nat.{ℕ, _≤_, _<_, _-_, zero-le}
+use native.Mathlib.Omega.{arith}
+use Rattle.network.specs.Distance
+use Rattle.network.specs.Distance.{eccentricity, diameter}
+use Rattle.network.proofs.Distances.{greatest-raised, greatest-kept}
+use Rattle.network.proofs.distance.diameter_of.Statement.{statement}
+use Rattle.network.proofs.distance.diameter_of.Tie as tie
+
+abbrev Inv-loop : tie.InvT-loop
+Inv-loop rows n greatest₀ a₀ greatest a = (a ≤ n) × (greatest ≡ Distance.greatest a (eccentricity rows n))
+
+abbrev μ-loop : tie.MeasureT-loop
+μ-loop rows n greatest₀ a₀ greatest a = n - a
+
+loop-holds : tie.Need-loop-holds Inv-loop μ-loop
+unfolding Distance.greatest
+loop-holds c = (zero-le, refl)
+
+eccentricity-requires : tie.Need-eccentricity-requires Inv-loop μ-loop
+eccentricity-requires c κs = search needs
+
+add-a : tie.Need-add-a Inv-loop μ-loop
+add-a c = search needs
+
+loop-less : tie.Need-loop-less Inv-loop μ-loop
+loop-less c = search needs
+
+loop-again : tie.Need-loop-again Inv-loop μ-loop
+loop-again c =
+    let b = c .before .before .before in
+    let x = b .before .args in
+    let f = eccentricity (x .rows .now) (x .n) in
+    let e = c .before .eccentricity .ensures in (
+      omega arith,
+      ⊎-elim
+          (λ w. w .1 ∙ e ∙ greatest-raised (b .loop .a) f (b .loop .inv .1) (subst (λ (k : ℕ). b .loop .greatest < k) e (w .0 .taken)))
+          (λ w. w .1 ∙ greatest-kept (b .loop .a) f (b .loop .inv .1) (subst (λ (k : ℕ). k ≤ b .loop .greatest) e (w .0 .left)))
+          (c .if1 .came),
+    )
+
+returns : tie.Need-returns Inv-loop μ-loop
+unfolding diameter
+returns c =
+    let e : c .before .loop .a ≡ c .before .before .args .n = omega arith in
+    rw e at (c .before .loop .inv .1)
+
+pub diameter-of-spec : {M : Type 1} → statement M
+diameter-of-spec =
+    tie.close
+    (tie.spec Inv-loop μ-loop loop-holds eccentricity-requires add-a loop-less loop-again returns)

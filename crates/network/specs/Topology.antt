@@ -1,0 +1,81 @@
+-- The rows of each topology, by its rule, and what the builders answer.
+-- Assumes nothing.
+use mathlib.Core.Bool.{Bool, not, cond, _&&_, _||_}
+use mathlib.Core.List.{List, [], _∷_, _++_}
+use mathlib.Core.Option.{Option, none, some}
+use Prim.Native.Nat.{ℕ, zero, suc, _+_, _*_, _/_, _%_}
+use lib.Dec.{eqb, leb, ltb}
+use lib.ListN.{length, drop}
+use Rattle.network.specs.Table.{tabulate}
+use Rattle.network.specs.Graph.{setOf}
+use Rattle.network.specs.Questions.{within, firstNo, nodesOf, question1, question2, question3}
+use Rattle.network.specs.declared.topology.Topology.{Topology}
+use Rattle.network.specs.declared.topology.Topology.the-variants.{FullMesh, Line, Star, Grid, Ring, Tree}
+use Rattle.network.specs.declared.topology.Built.{Built}
+use Rattle.network.specs.declared.topology.Built.the-variants.{Nodes, Refused}
+
+-- Two numbers that differ by 1.
+abbrev pub beside : ℕ → ℕ → Bool
+beside x y = eqb (x + 1) y || eqb (y + 1) x
+
+-- The first and the last of n nodes.
+abbrev pub ends : ℕ → ℕ → ℕ → Bool
+ends n i j = eqb i 0 && eqb (j + 1) n
+
+-- j is i times b + k for a k in 1 to b.
+abbrev pub child : ℕ → ℕ → ℕ → Bool
+child b i j = within (i * b + 1) (i * b + b) j
+
+-- Nodes i and j of the topology with n nodes are linked. A grid's number is its columns: node i stands in row i / c and column
+-- i % c, and is linked to those beside it in its row and in its column. A ring is a line that closes above 2 nodes. A tree's number
+-- is its branching factor.
+abbrev pub rule : Topology → ℕ → ℕ → ℕ → Bool
+rule FullMesh n i j = not (eqb i j)
+rule Line n i j = beside i j
+rule Star n i j = (eqb i 0 || eqb j 0) && not (eqb i j)
+rule (Grid c) n i j = eqb (i / c) (j / c) && beside (i % c) (j % c) || eqb (i % c) (j % c) && beside (i / c) (j / c)
+rule Ring n i j = beside i j || ltb 2 n && (ends n i j || ends n j i)
+rule (Tree b) n i j = child b i j || child b j i
+
+-- Row i of a topology: the set of the nodes that its rule links to i.
+unfoldable pub topologyRow : Topology → ℕ → ℕ → ℕ
+unfolding setOf
+topologyRow t n i = setOf n (rule t n i)
+
+unfoldable pub topologyRows : Topology → ℕ → List ℕ
+unfolding tabulate topologyRow
+topologyRows t n = tabulate n (topologyRow t n)
+
+-- The topology of a number that question 1 lets pass.
+abbrev pub topologyOf : ℕ → ℕ → Topology
+topologyOf topology second =
+    cond (eqb topology 1) FullMesh
+    (cond (eqb topology 2) Line
+    (cond (eqb topology 3) Star
+    (cond (eqb topology 4) (Grid second) (cond (eqb topology 5) Ring (Tree second)))))
+
+-- Questions 1, 2, 3 and 10, for a slice of the given length.
+abbrev pub rowsRefusal : ℕ → ℕ → ℕ → ℕ → Option ℕ
+rowsRefusal topology first second len =
+    firstNo
+    ((question1 topology, 1)
+    ∷ (question2 topology first second, 2)
+    ∷ (question3 topology second, 3)
+    ∷ (leb (nodesOf topology first second) len, 10)
+    ∷ [])
+
+-- A slice whose first n places hold the topology's rows.
+unfoldable pub withRows : Topology → ℕ → List ℕ → List ℕ
+unfolding topologyRows
+withRows t n out = topologyRows t n ++ drop n out
+
+-- The answer and the slice's final contents, from the refusal's number or none.
+abbrev pub answered : Topology → ℕ → List ℕ → Option ℕ → Built × List ℕ
+answered t n out none = (Nodes n, withRows t n out)
+answered t n out (some k) = (Refused k, out)
+
+-- What `rows` gives back and leaves in the slice.
+abbrev pub builtRows : ℕ → ℕ → ℕ → List ℕ → Built × List ℕ
+builtRows topology first second out =
+    answered (topologyOf topology second) (nodesOf topology first second) out
+    (rowsRefusal topology first second (length out))

@@ -1,0 +1,82 @@
+// Distances by sets of nodes, a layer a step.
+ghost use mathlib.Core.Path.{_≡_};
+ghost use Prim.Native.Nat.{_≤_, _<_, _^_};
+ghost use Rattle.network.specs.Graph.{maxNodes, Checked};
+ghost use Rattle.network.specs.Distance.{spread, eccentricity, diameter, measured};
+use crate::graph;
+use crate::graph::MAX_NODES;
+use crate::questions::lies_in;
+use crate::units::NodeId;
+
+// What asking for a diameter answers: the number of links, or the number of the question that was answered "no".
+pub enum Measured {
+    Links(usize),
+    Refused(u64),
+}
+
+// The set with every node that a link joins to one of it.
+fn spread(rows: &[u64; MAX_NODES], n: usize, set: u64) -> u64
+    requires { ⌜ (n ≤ maxNodes) × (Checked (now rows) n × (set < 2 ^ n)) ⌝ }
+    ensures { λ r. ⌜ r ≡ spread (now (rows .entry)) n set ⌝ }
+{
+    let mut next = set;
+    for i in 0..n {
+        if graph::has(set, NodeId(i)) {
+            next |= rows[i];
+        }
+    }
+    next
+}
+
+// The greatest finite distance from a: the number of steps in which the set of nodes reached still grows, which is
+// below n.
+pub fn eccentricity(rows: &[u64; MAX_NODES], n: usize, a: NodeId) -> usize
+    requires { ⌜ (n ≤ maxNodes) × (Checked (now rows) n × (a .0 < n)) ⌝ }
+    ensures { λ r. ⌜ r ≡ eccentricity (now (rows .entry)) n (a .0) ⌝ }
+{
+    let start = a.0;
+    let mut reached: u64 = 1 << start;
+    let mut k = 0;
+    while k + 1 < n {
+        let next = spread(rows, n, reached);
+        if next == reached {
+            return k;
+        }
+        reached = next;
+        k += 1;
+    }
+    k
+}
+
+// The greatest finite distance.
+pub fn diameter_of(rows: &[u64; MAX_NODES], n: usize) -> usize
+    requires { ⌜ (n ≤ maxNodes) × Checked (now rows) n ⌝ }
+    ensures { λ r. ⌜ r ≡ diameter (now (rows .entry)) n ⌝ }
+{
+    let mut greatest = 0;
+    for a in 0..n {
+        let far = eccentricity(rows, n, NodeId(a));
+        if greatest < far {
+            greatest = far;
+        }
+    }
+    greatest
+}
+
+// The diameter of n nodes with the given rows.
+pub fn diameter(rows: &[u32], n: u64) -> Measured
+    ensures { λ r. ⌜ r ≡ measured (now (rows .entry)) n ⌝ }
+{
+    if !lies_in(2, MAX_NODES as u64, n) {
+        return Measured::Refused(2);
+    }
+    let nodes = n as usize;
+    if rows.len() < nodes {
+        return Measured::Refused(4);
+    }
+    let wide = graph::widen(rows, nodes);
+    if !graph::rows_right(&wide, nodes) {
+        return Measured::Refused(4);
+    }
+    Measured::Links(diameter_of(&wide, nodes))
+}

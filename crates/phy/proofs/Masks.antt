@@ -1,0 +1,99 @@
+-- Sets of nodes in a word. Assumes nothing.
+use Prim.Native.Nat.{ℕ, zero, suc, _+_, _*_, _/_, _%_, _^_, _≤_, _<_}
+use mathlib.Core.Path.{_≡_, refl, sym, ap, ap₂, subst, _∙_}
+use mathlib.Core.Bool.{Bool, true, false, cond, _&&_, _||_}
+use mathlib.Core.Logic.{_⊎_, ⊎-elim}
+use native.Mathlib.Nat.{mod-lt, not-suc-le-zero, le-of-suc-le-suc, zero-div, div-eq-of-lt, eq-or-lt-of-le, lt-div-mul-add, zero-mul, zero-add}
+use native.Mathlib.Omega.{arith}
+use lib.Dec.{eqb}
+use lib.Bits.{bitAnd, bitOr, and-shr, and-mod, and-lt, or-lt, or-disjoint}
+use lib.Pow.{pow-pos, pow-lt}
+use borrow.Author.Tests.{eqb-true}
+use Rattle.network.specs.Graph.{has}
+use Rattle.network.proofs.Sets.{two, has-or, has-one, has-out, set-ext, one-shl}
+use Rattle.phy.specs.Slot.{insert}
+
+-- the intersection
+pub has-and : (s t j : ℕ) → has (bitAnd s t) j ≡ has s j && has t j
+unfolding has
+has-and s t j =
+    ap (λ (x : ℕ). eqb x 1) (ap (λ (x : ℕ). x % 2) (and-shr s t j) ∙ and-mod (s / 2 ^ j) (t / 2 ^ j) 1)
+    ∙ digit (s / 2 ^ j % 2) (t / 2 ^ j % 2) (mod-lt (s / 2 ^ j) (omega arith)) (mod-lt (t / 2 ^ j) (omega arith))
+  where
+    digit : (x y : ℕ) → x < 2 → y < 2 → eqb (bitAnd x y) 1 ≡ eqb x 1 && eqb y 1
+    digit zero y hx hy = refl
+    digit (suc zero) zero hx hy = refl
+    digit (suc zero) (suc zero) hx hy = refl
+    digit (suc zero) (suc (suc y)) hx hy = absurd (not-suc-le-zero (le-of-suc-le-suc (le-of-suc-le-suc hy)))
+    digit (suc (suc x)) y hx hy = absurd (not-suc-le-zero (le-of-suc-le-suc (le-of-suc-le-suc hx)))
+
+pub has-zero : (j : ℕ) → has 0 j ≡ false
+unfolding has
+has-zero j = ap (λ (x : ℕ). eqb (x % 2) 1) (zero-div (2 ^ j))
+
+module _ (w : ℕ) {s j : ℕ} (small : s < 2 ^ w) (in-word : j < w) where
+  or-bit : bitOr s (2 ^ j) ≡ insert j s
+  unfolding insert
+  or-bit = ⊎-elim present missing (two (has s j))
+    where
+      same : has s j ≡ true → (k : ℕ) → k < w → has s k || has (2 ^ j) k ≡ has s k
+      same p k h =
+          ⊎-elim
+          (λ e. ap (λ (b : Bool). has s k || b) e ∙ ap (λ (b : Bool). b || true) (found (has-one w j k in-word h) e) ∙ sym (found (has-one w j k in-word h) e))
+          (λ e. ap (λ (b : Bool). has s k || b) e ∙ or-false (has s k))
+          (two (has (2 ^ j) k))
+        where
+          found : has (2 ^ j) k ≡ eqb k j → has (2 ^ j) k ≡ true → has s k ≡ true
+          found q e = ap (has s) (eqb-true k j (sym q ∙ e)) ∙ p
+
+          or-false : (b : Bool) → b || false ≡ b
+          or-false true = refl
+          or-false false = refl
+
+      apart : has s j ≡ false → (k : ℕ) → k < w → has s k && has (2 ^ j) k ≡ false
+      apart p k h =
+          ⊎-elim
+          (λ e. ap (λ (b : Bool). b && has (2 ^ j) k) (ap (has s) (eqb-true k j (sym (has-one w j k in-word h) ∙ e)) ∙ p))
+          (λ e. ap (λ (b : Bool). has s k && b) e ∙ and-false (has s k))
+          (two (has (2 ^ j) k))
+        where
+          and-false : (b : Bool) → b && false ≡ false
+          and-false true = refl
+          and-false false = refl
+
+      present : has s j ≡ true → bitOr s (2 ^ j) ≡ cond (has s j) s (s + 2 ^ j)
+      present p =
+          set-ext w (or-lt w s (2 ^ j) small (pow-lt in-word)) small (λ k h. has-or s (2 ^ j) k ∙ same p k h)
+          ∙ ap (λ (b : Bool). cond b s (s + 2 ^ j)) (sym p)
+
+      missing : has s j ≡ false → bitOr s (2 ^ j) ≡ cond (has s j) s (s + 2 ^ j)
+      missing p =
+          or-disjoint s (2 ^ j) (set-ext w (and-lt w s (2 ^ j) small (pow-lt in-word)) (pow-pos w) (λ k h. has-and s (2 ^ j) k ∙ apart p k h ∙ sym (has-zero k)))
+          ∙ ap (λ (b : Bool). cond b s (s + 2 ^ j)) (sym p)
+
+  -- the code's way to put a node into a set
+  pub or-shifted-bit : bitOr s (1 * 2 ^ j % 2 ^ w) ≡ insert j s
+  or-shifted-bit = ap (bitOr s) (one-shl w j in-word) ∙ or-bit
+
+  pub has-insert : (k : ℕ) → k < w → has (insert j s) k ≡ eqb k j || has s k
+  has-insert k h = ap (λ (x : ℕ). has x k) (sym or-bit) ∙ has-or s (2 ^ j) k ∙ ap (λ (b : Bool). has s k || b) (has-one w j k in-word h) ∙ or-comm (has s k) (eqb k j)
+    where
+      or-comm : (a b : Bool) → a || b ≡ b || a
+      or-comm true true = refl
+      or-comm true false = refl
+      or-comm false true = refl
+      or-comm false false = refl
+
+  pub insert-lt : insert j s < 2 ^ w
+  insert-lt = subst (λ (x : ℕ). x < 2 ^ w) or-bit (or-lt w s (2 ^ j) small (pow-lt in-word))
+
+-- a word that is not used up has bits left
+pub bits-left : (w s j : ℕ) → s < 2 ^ w → j ≤ w → (s / 2 ^ j ≡ 0 → ⊥) → j < w
+bits-left w s j small h more = ⊎-elim (λ e. absurd (more (ap (λ (x : ℕ). s / 2 ^ x) e ∙ div-eq-of-lt small))) (λ l. l) (eq-or-lt-of-le h)
+
+-- and one that is used up has none
+pub none-left : (s j : ℕ) → s / 2 ^ j ≡ 0 → (k : ℕ) → j ≤ k → has s k ≡ false
+none-left s j e k h = has-out {n = j} (below (lt-div-mul-add {b = 2 ^ j} (pow-pos j))) k h
+  where
+    below : s < s / 2 ^ j * 2 ^ j + 2 ^ j → s < 2 ^ j
+    below b = subst (λ (x : ℕ). s < x) (ap (λ (q : ℕ). q * 2 ^ j + 2 ^ j) e ∙ ap (λ (x : ℕ). x + 2 ^ j) (zero-mul (2 ^ j)) ∙ zero-add (2 ^ j)) b

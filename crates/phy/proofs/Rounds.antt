@@ -1,0 +1,48 @@
+-- When a round goes on, and when it ends. Assumes nothing.
+use Prim.Native.Nat.{ℕ, zero, suc, _+_, _^_, _≤_, _<_}
+use mathlib.Core.Path.{_≡_, refl, sym, ap, ap₂, _∙_}
+use mathlib.Core.Bool.{Bool, true, false, cond}
+use native.Mathlib.Omega.{arith}
+use lib.Count.{ones}
+use lib.Dec.{ltb}
+use borrow.Author.Tests.{le-ltb, lt-ltb}
+use Rattle.network.specs.Graph.{setOf, count}
+use Rattle.phy.specs.declared.slot.Radios.{Radios}
+use Rattle.phy.specs.Node.{isFlooding}
+use Rattle.phy.specs.Slot.{Setup, Standing, at, howMany, slotStep}
+use Rattle.phy.specs.Round.{slots}
+use Rattle.phy.specs.View.{Right, nodesOf}
+use Rattle.phy.proofs.Nodes.{ones-setOf}
+
+-- nobody is counted where the set is empty, and the other way round
+setOf-none : (n : ℕ) (f : ℕ → Bool) → count n f ≡ 0 → setOf n f ≡ 0
+unfolding setOf count
+setOf-none zero f e = refl
+setOf-none (suc n) f e = ap₂ _+_ (setOf-none n f (omega (arith, e))) (empty (f n) (omega (arith, e)))
+  where
+    empty : (b : Bool) → _≡_ {A = ℕ} (cond b 1 0) 0 → cond b (2 ^ n) 0 ≡ 0
+    empty true p = absurd (omega (arith, p))
+    empty false p = refl
+
+module _ (n : ℕ) (x : Radios) (right : Right n x) where
+  pub nobody : x .flooding ≡ 0 → ltb 0 (howMany isFlooding (nodesOf n x) n) ≡ false
+  unfolding ones
+  nobody e =
+      let none : howMany isFlooding (nodesOf n x) n ≡ 0 = sym (ones-setOf n (λ (j : ℕ). isFlooding (at (nodesOf n x) j))) ∙ ap ones (sym (right .flooding) ∙ e) in
+      le-ltb 0 (howMany isFlooding (nodesOf n x) n) (omega (arith, none))
+
+  pub somebody : (x .flooding ≡ 0 → ⊥) → ltb 0 (howMany isFlooding (nodesOf n x) n) ≡ true
+  somebody h = lt-ltb 0 (howMany isFlooding (nodesOf n x) n) (above (howMany isFlooding (nodesOf n x) n) (λ z. h (right .flooding ∙ setOf-none n _ z)))
+    where
+      above : (k : ℕ) → (k ≡ 0 → ⊥) → 0 < k
+      above zero q = absurd (q refl)
+      above (suc k) q = omega arith
+
+module _ (g : Setup) (left : ℕ) (s : Standing) where
+  pub slots-more : ltb 0 (howMany isFlooding (slotStep g s .nodes) (g .nodes)) ≡ true → slots g (suc left) s ≡ slots g left (slotStep g s)
+  unfolding slots
+  slots-more e = rw (slots, e)
+
+  pub slots-last : ltb 0 (howMany isFlooding (slotStep g s .nodes) (g .nodes)) ≡ false → slots g (suc left) s ≡ slotStep g s
+  unfolding slots
+  slots-last e = rw (slots, e)
