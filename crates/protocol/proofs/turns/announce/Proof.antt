@@ -1,0 +1,69 @@
+-- `protocol::turns::announce` meets its contract: the callees' answers, put together field by field.
+-- Assumes nothing.
+use borrow.Author.Needs.{needs}
+use mathlib.Core.Path.{_≡_, ap, ap₂, _∙_}
+use Rattle.phy.specs.declared.packet.LastAccepted.{LastAccepted}
+use Rattle.protocol.specs.Paxos.{State, commitTo, newlyTo, termSet, union, vote}
+use Rattle.protocol.specs.Turns.{votesOf, accepted, announce}
+use Rattle.protocol.specs.View.{view, logOf}
+use Rattle.protocol.proofs.Chains.{quorum-below}
+use Rattle.protocol.proofs.turns.announce.Statement.{statement}
+use Rattle.protocol.proofs.turns.announce.Tie as tie
+
+greatest-quorum-requires : tie.Need-greatest-quorum-requires
+greatest-quorum-requires c κs = search needs
+
+commit-to-requires : tie.Need-commit-to-requires
+commit-to-requires c κs = (c .before .pre .0, rw (c .greatest-quorum .ensures) (quorum-below 64 (c .before .args .n) (c .before .pre .0)))
+
+votes-of-requires : tie.Need-votes-of-requires
+votes-of-requires c κs =
+    let q = c .before .before in
+    c .before .commit-to .ensures .next .kept 64 (rw (q .greatest-quorum .ensures) (quorum-below 64 (q .before .args .n) (q .before .pre .0))) (q .before .pre .0)
+
+vote-of-requires : tie.Need-vote-of-requires
+vote-of-requires c κs = search needs
+
+joined-requires : tie.Need-joined-requires
+joined-requires c κs = search needs
+
+returns : tie.Need-returns
+unfolding announce
+returns c =
+    let d = c .before .before .before .before in
+    let q = d .before in
+    let a = q .before .args in
+    let e = q .greatest-quorum .ensures in
+    let n = d .commit-to .ensures .next in
+    let is : view (d .commit-to .result .state) ≡ commitTo (accepted (a .n) (view (a .s))) (view (a .s)) =
+    n .is ∙ ap (λ (l : LastAccepted). commitTo l (view (a .s))) e in
+    let flags : c .joined .result ≡ union (votesOf (commitTo (accepted (a .n) (view (a .s))) (view (a .s)) .pending (a .current .0))) (vote (a .node .0)) =
+    c .joined .ensures ∙
+    ap₂ union
+    (c .before .before .votes-of .ensures ∙ ap (λ (x : State). votesOf (x .pending (a .current .0))) is)
+    (c .before .vote-of .ensures) in
+    record {
+      next = record { kept = λ k u h. n .kept k (rw e (quorum-below 64 (a .n) h)) h; is = is };
+      packet = λ j.
+          record {
+            «current_term» = a .current;
+            «last_accepted_term» = is j .last;
+            «flags_bitmap» = flags j;
+            «nack_term» = a .nack;
+            sender = a .node;
+            «proposal_data» = a .«data»;
+            piggyback = a .piggyback;
+          };
+      newly = d .commit-to .ensures .newly ∙ ap (λ (l : LastAccepted). termSet (newlyTo l (logOf (a .s)))) e;
+    }
+
+pub announce-spec : {M : Type 1} → statement M
+announce-spec =
+    tie.close
+    (tie.spec
+    greatest-quorum-requires
+    commit-to-requires
+    votes-of-requires
+    vote-of-requires
+    joined-requires
+    returns)

@@ -1,0 +1,130 @@
+use Prim.Native.Nat.{ℕ, _+_}
+use mathlib.Core.Path.{_≡_, refl, sym, ap, subst⁻¹, _∙_}
+use mathlib.Core.List.{List}
+use native.Mathlib.Omega.{arith}
+use lib.ListN.{set, take}
+use Rattle.network.specs.Graph.{has}
+use Rattle.phy.specs.Slot.{among}
+use Rattle.phy.specs.declared.packet.Piggyback.{Piggyback}
+use Rattle.protocol.specs.Turns.{Taken, participantTurn}
+use Rattle.protocol.specs.View.{view, backBelow}
+use Rattle.protocol.proofs.Kept.{kept-mono, last-mono}
+use Rattle.protocol.proofs.Chains.{carried-mono}
+use Rattle.sim.specs.Round.{stateOf, recordAll, takeTurn, latest, onePiggyback}
+use Rattle.sim.specs.View.{sharedOf, statesOf, nodeAt, recordsOf}
+use Rattle.sim.proofs.Filing.{recordAll-cong}
+use Rattle.sim.proofs.Sharing.{state-at, states-set, start-at, participant-newly, kept-set, latest-below, one-at-most}
+use borrow.Author.Needs.{needs}
+use Rattle.sim.proofs.round.take_turn.Statement.{statement}
+use Rattle.sim.proofs.round.take_turn.Tie as tie
+use Rattle.sim.proofs.round.take_turn.Reads as reads
+use Rattle.sim.proofs.round.take_turn.Lts as lts
+use Rattle.protocol.proofs.turns.participant_turn.Reads as participant-turn-reads
+use Rattle.sim.proofs.records.record_all.Reads as record-all-reads
+use Rattle.sim.proofs.round.latest.Reads as latest-reads
+use Rattle.sim.proofs.round.one_piggyback.Reads as one-piggyback-reads
+
+-- src/round.rt:105:13
+mul-v : tie.Need-mul-v
+mul-v c = search needs
+
+-- src/round.rt:105:13
+element-copy-out-v : tie.Need-element-copy-out-v
+element-copy-out-v c = search needs
+
+-- src/round.rt:106:9
+participant-turn-requires : tie.Need-participant-turn-requires
+participant-turn-requires c κs =
+    let start = c .before .before in
+    let a = start .args in
+    let s = start .pre .0 .3 in
+    (kept-mono (s .few) (omega arith) (s .kept .each (a .node .0) (start .pre .0 .4)), (carried-mono (s .few) (start .pre .1), omega (arith, start .pre .0 .4, start .pre .0 .5)))
+
+-- src/round.rt:108:5
+mul-w : tie.Need-mul-w
+mul-w c = search needs
+
+-- src/round.rt:108:5
+element-set-from-w : tie.Need-element-set-from-w
+element-set-from-w c = search needs
+
+-- src/round.rt:111:9
+record-all-requires : tie.Need-record-all-requires
+record-all-requires c κs = search needs
+
+-- src/round.rt:119:20
+latest-requires : tie.Need-latest-requires
+latest-requires c κs = search needs
+
+-- src/round.rt:121:36
+one-piggyback-requires : tie.Need-one-piggyback-requires
+one-piggyback-requires c κs = search needs
+
+-- src/round.rt:121:21
+add-t24 : tie.Need-add-t24
+add-t24 c =
+    let start = c .before .before .before .before .before .before .before .before .before .before in
+    omega (arith, start .pre .0 .3 .piggybacks, start .pre .0 .6, c .before .one-piggyback .ensures, one-at-most (c .before .before .before .before .before .before .before .participant-turn .result .recovery))
+
+-- src/round.rt:99:1
+returns : tie.Need-returns
+unfolding sharedOf takeTurn
+returns c =
+    let start = c .before .before .before .before .before .before .before .before .before .before in
+    let a = start .args in
+    let x = a .x in
+    let j = a .node .0 in
+    let turn = c .before .before .before .before .before .before .before .participant-turn in
+    let filed = c .before .before .before .record-all in
+    let latest-is = c .before .before .latest .ensures in
+    let one-is = c .before .one-piggyback .ensures in
+    record {
+      counter = refl;
+      sharing = λ n k m h s. record {
+        few = s .few;
+        kept = kept-set j (turn .result .state) (s .kept) (omega arith) (s .few) h (turn .ensures .kept (x .counter) (start .pre .1) (s .kept .each j h));
+        started = s .started;
+        filed = filed .ensures .0;
+        back = subst⁻¹ (backBelow (x .counter)) latest-is (latest-below (x .counter) (turn .result .recovery) (x .piggyback) (turn .ensures .back (x .counter) (start .pre .1) (s .kept .each j h)) (s .back));
+        nacks = s .nacks;
+        piggybacks = omega (arith, s .piggybacks, one-is, one-at-most (turn .result .recovery));
+      };
+      shared = λ n k m h s.
+          let spec : Taken = participantTurn j (a .packet) (stateOf (statesOf n (x .states)) j) in
+          let same : spec ≡ participantTurn j (a .packet) (view (nodeAt (x .states) j)) = ap (participantTurn j (a .packet)) (state-at n (x .states) j h) in
+          let states = states-set n (x .states) j (turn .result .state) h (s .kept .room) ∙ ap (set (statesOf n (x .states)) j) (turn .ensures .state ∙ sym (ap (λ (t : Taken). t .state) same)) in
+          let newly : among 64 (has (turn .result .newly)) ≡ spec .newly
+          = ap (λ (w : ℕ). among 64 (has w)) (turn .ensures .newly)
+          ∙ participant-newly j (a .packet) (view (nodeAt (x .states) j)) (last-mono (a .packet .«last_accepted_term») (s .few) (start .pre .1 .last))
+          ∙ sym (ap (λ (t : Taken). t .newly) same) in
+          let records = filed .ensures .1
+          ∙ ap (λ (ts : List ℕ). recordAll (x .starts) (a .slot .0) ts (recordsOf (x .records))) newly
+          ∙ recordAll-cong (x .starts) (take (x .counter) (x .starts)) (a .slot .0) (spec .newly) (recordsOf (x .records)) (start-at (s .started) (s .few)) in
+          let recovered = turn .ensures .recovered ∙ sym (ap (λ (t : Taken). t .recovered) same) in
+          let back = latest-is ∙ ap (λ (p : Piggyback). latest p (x .piggyback)) recovered in
+          let piggybacks = ap (λ (w : ℕ). x .piggybacks + w) (one-is ∙ ap onePiggyback recovered) in
+          λ i. record {
+            states = states i;
+            counter = x .counter;
+            starts = take (x .counter) (x .starts);
+            records = records i;
+            piggyback = back i;
+            nacks = x .nacks;
+            piggybacks = piggybacks i;
+          };
+    }
+
+pub take-turn-spec : {M : Type 1} → statement M
+take-turn-spec =
+    tie.close
+    (tie.spec
+    mul-v
+    element-copy-out-v
+    participant-turn-requires
+    mul-w
+    element-set-from-w
+    record-all-requires
+    latest-requires
+    one-piggyback-requires
+    add-t24
+    returns)

@@ -1,0 +1,118 @@
+-- What an entry answers, and the final contents of the lent buffers.
+use Prim.Native.Nat.{ℕ, zero, suc, _+_, _*_}
+use mathlib.Core.Bool.{Bool, true, false}
+use mathlib.Core.List.{List, [], _∷_, _++_, map}
+use mathlib.Core.Option.{Option, none, some}
+use lib.ListN.{length}
+use lib.Seq.{sets}
+use Rattle.network.specs.Graph.{widened}
+use Rattle.network.specs.Questions.{nodesOf}
+use Rattle.network.specs.Topology.{topologyRows, topologyOf}
+use Rattle.network.specs.Distance.{diameter}
+use Rattle.network.specs.Reception.{heard}
+use Rattle.phy.specs.declared.node.Node.{Node}
+use Rattle.phy.specs.Slot.{at}
+use Rattle.protocol.specs.Paxos.{Entry, State}
+use Rattle.text.specs.declared.listing.Summary.{Summary}
+use Rattle.sim.specs.declared.config.Config.{Config}
+use Rattle.sim.specs.declared.config.Answer.{Answer}
+use Rattle.sim.specs.declared.config.Answer.the-variants.{Ran, Refused}
+use Rattle.sim.specs.Questions.{rowsRefusal, topologyRefusal}
+use Rattle.sim.specs.Round.{Record, stateOf}
+use Rattle.sim.specs.Run.{Given, Running, Ended, run}
+
+-- the answer, and what the three buffers hold afterwards
+pub record Outcome : Type 0 where
+  pub answer : Answer
+  pub logs : List ℕ
+  pub records : List ℕ
+  pub snapshots : List ℕ
+
+-- a field of the nodes, added up over the first n
+unfoldable pub sumOf : (Node → ℕ) → List Node → ℕ → ℕ
+sumOf f nodes zero = 0
+sumOf f nodes (suc n) = sumOf f nodes n + f (at nodes n)
+
+-- The summary: nodes, rounds, slots, end; listen, flood, sleep; attempts, successes; flood rounds, flood nodes, covered; NACKs,
+-- piggybacks; records, and all snapshots that were taken.
+abbrev pub summaryOf : Given → Ended → Summary
+summaryOf g e =
+    let r : Running = e .running in
+    let rounds : ℕ = length (r .rounds) in
+    record {
+      nodes = g .nodes;
+      rounds = rounds;
+      slots = r .standing .slot;
+      ended = e .ended;
+      listen = sumOf (λ (v : Node). v .«slots_listen») (r .standing .nodes) (g .nodes);
+      flood = sumOf (λ (v : Node). v .«slots_flood») (r .standing .nodes) (g .nodes);
+      sleep = sumOf (λ (v : Node). v .«slots_sleep») (r .standing .nodes) (g .nodes);
+      attempts = r .standing .attempts;
+      successes = r .standing .successes;
+      «flood_rounds» = rounds;
+      «flood_nodes» = g .nodes * rounds;
+      covered = r .covered;
+      nacks = r .shared .nacks;
+      piggybacks = r .shared .piggybacks;
+      records = length (r .shared .records);
+      snapshots = r .standing .shots .count;
+    }
+
+-- Logs: terms of node i from byte 64i, its count at 2,048 + i; every other byte stays.
+abbrev pub terms : List Entry → List ℕ
+terms log = map (λ (e : Entry). e .term) log
+
+unfoldable pub logsWith : List ℕ → List State → ℕ → List ℕ
+logsWith old states zero = old
+logsWith old states (suc i) =
+    let log : List ℕ = terms (stateOf states i .log) in
+    sets (sets (logsWith old states i) (64 * i) log) (2048 + i) (length log ∷ [])
+
+-- Records: id, start, end, one after the other; every other number stays.
+unfoldable pub numbersOf : List Record → List ℕ
+numbersOf [] = []
+numbersOf (r ∷ rs) = r .id ∷ r .start ∷ r .end ∷ numbersOf rs
+
+-- what a run that is not refused gives
+unfoldable pub ranWith : Given → List ℕ → List ℕ → List ℕ → Outcome
+ranWith g logs records snapshots =
+    let e : Ended = run g snapshots in
+    record {
+      answer = Ran (summaryOf g e);
+      logs = logsWith logs (e .running .shared .states) (g .nodes);
+      records = sets records 0 (numbersOf (e .running .shared .records));
+      snapshots = e .running .standing .shots .buffer;
+    }
+
+-- a run of n nodes with these rows, where an attempt's outcome is that of its draw
+abbrev pub givenOf : List ℕ → ℕ → Config → Given
+givenOf rows n c =
+    let graph : List ℕ = widened rows n in
+    record {
+      rows = graph;
+      nodes = n;
+      diameter = diameter graph n;
+      repeats = c .«flood_repeats»;
+      roundSlots = c .«round_slots»;
+      proposals = c .«num_proposals»;
+      interval = c .«snapshot_interval»;
+      limit = c .«max_slots»;
+      heard = heard (c .«loss_rate») (c .seed);
+    }
+
+-- a refusal leaves every buffer as it was
+abbrev pub outcomeOf : Option ℕ → Given → List ℕ → List ℕ → List ℕ → Outcome
+outcomeOf none g logs records snapshots = ranWith g logs records snapshots
+outcomeOf (some k) g logs records snapshots = record { answer = Refused k; logs = logs; records = records; snapshots = snapshots }
+
+-- run of rows
+unfoldable pub runOfRows : List ℕ → ℕ → Config → List ℕ → List ℕ → List ℕ → Outcome
+runOfRows rows n c logs records snapshots =
+    outcomeOf (rowsRefusal rows n c (length logs) (length records)) (givenOf rows n c) logs records snapshots
+
+-- run of a topology: the run of its rows, after its own questions
+unfoldable pub runOfTopology : ℕ → ℕ → ℕ → Config → List ℕ → List ℕ → List ℕ → Outcome
+runOfTopology topology first second c logs records snapshots =
+    let n : ℕ = nodesOf topology first second in
+    outcomeOf (topologyRefusal topology first second c (length logs) (length records))
+    (givenOf (topologyRows (topologyOf topology second) n) n c) logs records snapshots

@@ -1,0 +1,11 @@
+-- What is right for the crate `sim`.
+pub mod Questions
+pub mod Round
+pub mod Run
+pub mod Entries
+pub mod View
+pub mod Going
+pub mod ExactRounds
+pub mod Ratio
+pub mod Answers
+pub mod Printed

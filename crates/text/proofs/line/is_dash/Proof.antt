@@ -1,0 +1,19 @@
+use borrow.Author.Tests.{eq-eqb, ne-eqb}
+use borrow.Author.Needs.{needs}
+use Rattle.text.specs.Line.{isDash}
+use Rattle.text.proofs.line.is_dash.Statement.{statement}
+use Rattle.text.proofs.line.is_dash.Tie as tie
+
+shared-slice-read-result : tie.Need-shared-slice-read-result
+shared-slice-read-result c = search needs
+
+returns : tie.Need-returns
+unfolding isDash
+returns c = simp (eq-eqb _ 1 (c .before .if1 .taken))
+
+returns-2 : tie.Need-returns-2
+unfolding isDash
+returns-2 c = simp (ne-eqb _ 1 (c .if1 .left))
+
+pub is-dash-spec : {M : Type 1} → statement M
+is-dash-spec = tie.close (tie.spec shared-slice-read-result returns returns-2)

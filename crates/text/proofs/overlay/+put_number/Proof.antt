@@ -1,0 +1,75 @@
+-- The proof of the cycle of calls {put_number}. The measure is the number: each call leaves the last digit off.
+use Prim.Native.Nat.{ℕ, _<_}
+use native.Mathlib.Omega.{arith}
+use borrow.Fn.Kinds.{In}
+use borrow.Fn.PlainCycle.{Measures, is, falls, and}
+use Rattle.text.proofs.Overlays.{_then_, same-size, one-digit, digit-more}
+use Rattle.text.proofs.overlay.put_number.Reads as put-number
+use Rattle.text.proofs.overlay.put_number.Kinds as kinds
+use Rattle.text.proofs.overlay.+put_number.Lts-put_number as lts
+use Rattle.text.proofs.overlay.put.Reads as put-reads
+use Rattle.text.proofs.overlay.+put_number.{statement}
+use Rattle.text.proofs.overlay.+put_number.Tie.{close}
+
+abbrev μ : Measures 1 kinds.ps ℕ
+μ κs a = a .0
+
+-- what `put_number` is given at the measure t, and what a call of it asks below t
+abbrev at : ℕ → In 1 kinds.ps
+at t = and 1 kinds.ps (is 1 kinds.ps μ t) put-number.Pre
+
+abbrev below : ℕ → In 1 kinds.ps
+below t = and 1 kinds.ps (falls 1 kinds.ps _<_ μ t) put-number.Pre
+
+module _ (t : ℕ) where
+  cast-put : lts.Need-cast-put (put-reads.Asked, put-reads.Learnt, below t, put-number.Post) (at t) put-number.Post
+  cast-put c = omega arith
+
+  add-put : lts.Need-add-put (put-reads.Asked, put-reads.Learnt, below t, put-number.Post) (at t) put-number.Post
+  add-put c = omega arith
+
+  put-requires : lts.Need-put-requires (put-reads.Asked, put-reads.Learnt, below t, put-number.Post) (at t) put-number.Post
+  put-requires c κs = omega arith
+
+  same-length : lts.Need-same-length (put-reads.Asked, put-reads.Learnt, below t, put-number.Post) (at t) put-number.Post
+  same-length c = same-size (c .before .before .put .ensures)
+
+  returns : lts.Need-returns (put-reads.Asked, put-reads.Learnt, below t, put-number.Post) (at t) put-number.Post
+  returns c = one-digit _ (omega arith) (c .before .before .put .ensures)
+
+  put-number-requires : lts.Need-put-number-requires (put-reads.Asked, put-reads.Learnt, below t, put-number.Post) (at t) put-number.Post
+  put-number-requires c κs = (omega arith, omega arith)
+
+  cast-put-2 : lts.Need-cast-put-2 (put-reads.Asked, put-reads.Learnt, below t, put-number.Post) (at t) put-number.Post
+  cast-put-2 c = omega arith
+
+  add-put-2 : lts.Need-add-put-2 (put-reads.Asked, put-reads.Learnt, below t, put-number.Post) (at t) put-number.Post
+  add-put-2 c = omega arith
+
+  put-requires-2 : lts.Need-put-requires-2 (put-reads.Asked, put-reads.Learnt, below t, put-number.Post) (at t) put-number.Post
+  put-requires-2 c κs = omega arith
+
+  same-length-2 : lts.Need-same-length-2 (put-reads.Asked, put-reads.Learnt, below t, put-number.Post) (at t) put-number.Post
+  same-length-2 c = same-size (c .before .before .before .before .before .before .put-number .ensures then c .before .before .put2 .ensures)
+
+  returns-2 : lts.Need-returns-2 (put-reads.Asked, put-reads.Learnt, below t, put-number.Post) (at t) put-number.Post
+  returns-2 c =
+      let first = c .before .before .before .before .before .before in
+      let n = first .before .before .before .before in
+      digit-more (n .args .n) (omega arith) (omega arith) (first .put-number .ensures) (c .before .before .put2 .ensures)
+
+pub +put-number-spec : {M : Type 1} → statement M
++put-number-spec =
+    close μ λ t.
+    lts.spec (put-reads.Asked, put-reads.Learnt, below t, put-number.Post) (at t) put-number.Post
+    (cast-put t)
+    (add-put t)
+    (put-requires t)
+    (same-length t)
+    (returns t)
+    (put-number-requires t)
+    (cast-put-2 t)
+    (add-put-2 t)
+    (put-requires-2 t)
+    (same-length-2 t)
+    (returns-2 t)

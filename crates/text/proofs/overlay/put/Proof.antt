@@ -1,0 +1,27 @@
+use mathlib.Core.Path.{_≡_, refl, sym, ap, _∙_}
+use mathlib.Core.Logic.{⊎-elim}
+use native.Mathlib.Omega.{arith}
+use borrow.Author.Needs.{needs}
+use lib.ListN.{length, set, length-set}
+use lib.Seq.{set-out}
+use Rattle.text.proofs.overlay.put.Statement.{statement}
+use Rattle.text.proofs.overlay.put.Tie as tie
+
+slice-write-out : tie.Need-slice-write-out
+slice-write-out c = search needs
+
+add-result : tie.Need-add-result
+add-result c = search needs
+
+-- a byte past the end is dropped, as `set` has it
+stored : (c : tie.Joined1) → c .if1 .out ≡ set (c .before .args .out .now) (c .before .args .at) (c .before .args .byte)
+stored c = ⊎-elim (λ w. w .1) (λ w. w .1 ∙ sym (set-out _ _ _ (w .0 .left))) (c .if1 .came)
+
+same-length : tie.Need-same-length
+same-length c = ap length (stored c) ∙ simp length-set
+
+returns : tie.Need-returns
+returns c = record { contents = stored c; place = refl; short = omega arith }
+
+pub put-spec : {M : Type 1} → statement M
+put-spec = tie.close (tie.spec slice-write-out add-result same-length returns)

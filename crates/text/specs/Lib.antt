@@ -1,0 +1,5 @@
+pub mod Ascii
+pub mod Line
+pub mod Listing
+pub mod Numeral
+pub mod Overlay

@@ -1,0 +1,77 @@
+-- The program's listing (document 01, "The printed run").
+use Prim.Native.Nat.{ℕ, zero, suc, _+_, _-_, _*_, _/_, _%_, min}
+use Prim.Native.String.{String}
+use mathlib.Core.Bool.{true, false}
+use mathlib.Core.List.{List, [], _∷_, _++_}
+use lib.Dec.{ltb}
+use lib.ListN.{length, getD}
+use Rattle.text.specs.Ascii.{ascii}
+use Rattle.text.specs.declared.listing.Summary.{Summary}
+
+-- the decimal digits of n, at most as many as `most`
+unfoldable pub spelledIn : ℕ → ℕ → List ℕ
+spelledIn zero n = []
+spelledIn (suc most) n = elim (ltb n 10) [ true ↦ (48 + n) ∷ [] | false ↦ spelledIn most (n / 10) ++ ((48 + n % 10) ∷ []) ]
+
+-- a number in decimal, with no zero in front: it has at most n + 1 digits
+unfoldable pub spelled : ℕ → List ℕ
+spelled n = spelledIn (suc n) n
+
+-- a word with a number behind it
+unfoldable pub entry : String → ℕ → List ℕ
+entry word n = ascii word ++ spelled n
+
+-- what f gives for 0 to n - 1, one after the other
+unfoldable pub each : (ℕ → List ℕ) → ℕ → List ℕ
+each f zero = []
+each f (suc n) = each f n ++ f n
+
+-- the run: how many nodes, rounds and slots, and its end number
+unfoldable pub runLine : Summary → List ℕ
+runLine s =
+    entry "nodes " (s .nodes) ++ entry " rounds " (s .rounds) ++ entry " slots " (s .slots) ++ entry " ended " (s .ended) ++ ascii "\n"
+
+-- the slots of all nodes
+unfoldable pub radioLine : Summary → List ℕ
+radioLine s = entry "listen " (s .listen) ++ entry " flood " (s .flood) ++ entry " sleep " (s .sleep) ++ ascii "\n"
+
+-- links: attempts, successes; floods: rounds, nodes, covered; recovery: NACKs, piggybacks
+unfoldable pub linkLine : Summary → List ℕ
+linkLine s =
+    entry "links " (s .attempts) ++ entry " " (s .successes)
+    ++ entry " floods " (s .«flood_rounds») ++ entry " " (s .«flood_nodes») ++ entry " " (s .covered)
+    ++ entry " recovery " (s .nacks) ++ entry " " (s .piggybacks) ++ ascii "\n"
+
+-- record i of the buffer: id, start, end, latency
+unfoldable pub proposal : List ℕ → ℕ → List ℕ
+proposal records i =
+    let start = getD records (3 * i + 1) 0 in
+    let end = getD records (3 * i + 2) 0 in
+    entry "proposal " (getD records (3 * i) 0) ++ entry " " start ++ entry " " end ++ entry " " (end - start) ++ ascii "\n"
+
+-- snapshot i of the buffer: slot, progress, listening, flooding, sleeping
+unfoldable pub snapshot : List ℕ → ℕ → List ℕ
+snapshot snapshots i =
+    entry "snapshot " (getD snapshots (5 * i) 0) ++ entry " " (getD snapshots (5 * i + 1) 0) ++ entry " " (getD snapshots (5 * i + 2) 0)
+    ++ entry " " (getD snapshots (5 * i + 3) 0) ++ entry " " (getD snapshots (5 * i + 4) 0) ++ ascii "\n"
+
+-- term k of node i's log
+unfoldable pub termText : List ℕ → ℕ → ℕ → List ℕ
+termText logs i k = entry " " (getD logs (64 * i + k) 0)
+
+-- node i's log: its number, and its terms
+unfoldable pub log : List ℕ → ℕ → List ℕ
+log logs i = entry "log " i ++ each (termText logs i) (min (getD logs (2048 + i) 0) 64) ++ ascii "\n"
+
+-- The listing: three lines of totals, the records, the stored snapshots and the logs. At most 64 records, 1,000 snapshots and 32 logs of
+-- 64 terms are listed, as many as a run has. A snapshot is stored where it fits whole. A place past a buffer's end reads as 0.
+unfoldable pub listing : Summary → List ℕ → List ℕ → List ℕ → List ℕ
+listing s records snapshots logs =
+    runLine s ++ radioLine s ++ linkLine s
+    ++ each (proposal records) (min (s .records) 64)
+    ++ each (snapshot snapshots) (min (min (s .snapshots) (length snapshots / 5)) 1000)
+    ++ each (log logs) (min (s .nodes) 32)
+
+-- the refusal of a number
+unfoldable pub refusal : ℕ → List ℕ
+refusal n = entry "refused " n ++ ascii "\n"
