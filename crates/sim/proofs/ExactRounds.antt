@@ -138,7 +138,7 @@ accepts rows n c logs records ck two most q =
     }
 
 -- a run that is not refused
-ran : (o : Option ℕ) (g : Given) (logs records snapshots : List ℕ) (s : Summary) → outcomeOf o g logs records snapshots .answer ≡ Ran s
+pub ran : (o : Option ℕ) (g : Given) (logs records snapshots : List ℕ) (s : Summary) → outcomeOf o g logs records snapshots .answer ≡ Ran s
     → (o ≡ none) × (summaryOf g (run g snapshots) ≡ s)
 unfolding ranWith
 ran none g logs records snapshots s e = (refl, cc)

@@ -19,6 +19,7 @@
 --     ExactBuffers what the log and record buffers then hold
 --     ExactRounds  demand 3
 --     ExactPrinted the printed run is such a run
+--     StarredRuns  document 01's starred runs, in one table
 pub mod Filing
 pub mod Sharing
 pub mod Rounds
@@ -39,3 +40,4 @@ pub mod ExactEnd
 pub mod ExactBuffers
 pub mod ExactRounds
 pub mod ExactPrinted
+pub mod StarredRuns

@@ -9,3 +9,4 @@ pub mod ExactRounds
 pub mod Ratio
 pub mod Answers
 pub mod Printed
+pub mod StarredRuns

@@ -1,57 +1,43 @@
 use Prim.Native.Nat.{_^_, _<_}
 use native.Mathlib.Omega.{arith}
-use Rattle.sim.proofs.Filing.{room-left, added-list, added-filed}
 use borrow.Author.Needs.{needs}
+use Rattle.sim.proofs.Filing.{room-left, added-list, added-filed}
 use Rattle.sim.proofs.records.add.Statement.{statement}
 use Rattle.sim.proofs.records.add.Tie as tie
-use Rattle.sim.proofs.records.add.Reads as reads
-use Rattle.sim.proofs.records.add.Lts as lts
 
--- src/records.rt:18:14
 mul-at : tie.Need-mul-at
 mul-at c = let a = c .args in omega (arith, room-left (a .x) (a .id) (c .pre .0) (c .pre .1) (c .pre .2))
 
--- src/records.rt:20:5
 mul-r : tie.Need-mul-r
 mul-r c = let a = c .args in omega (arith, room-left (a .x) (a .id) (c .pre .0) (c .pre .1) (c .pre .2))
 
--- src/records.rt:20:5
 element-write-r : tie.Need-element-write-r
 element-write-r c = let a = c .args in omega (arith, room-left (a .x) (a .id) (c .pre .0) (c .pre .1) (c .pre .2))
 
--- src/records.rt:21:15
 add-r : tie.Need-add-r
 add-r c = let a = c .args in omega (arith, room-left (a .x) (a .id) (c .pre .0) (c .pre .1) (c .pre .2))
 
--- src/records.rt:21:5
 mul-r-2 : tie.Need-mul-r-2
 mul-r-2 c = let a = c .args in omega (arith, room-left (a .x) (a .id) (c .pre .0) (c .pre .1) (c .pre .2))
 
--- src/records.rt:21:5
 element-write-r-2 : tie.Need-element-write-r-2
 element-write-r-2 c = let a = c .args in omega (arith, room-left (a .x) (a .id) (c .pre .0) (c .pre .1) (c .pre .2))
 
--- src/records.rt:22:15
 add-r-2 : tie.Need-add-r-2
 add-r-2 c = let a = c .args in omega (arith, room-left (a .x) (a .id) (c .pre .0) (c .pre .1) (c .pre .2))
 
--- src/records.rt:22:5
 mul-r-3 : tie.Need-mul-r-3
 mul-r-3 c = let a = c .args in omega (arith, room-left (a .x) (a .id) (c .pre .0) (c .pre .1) (c .pre .2))
 
--- src/records.rt:22:5
 element-write-r-3 : tie.Need-element-write-r-3
 element-write-r-3 c = let a = c .args in omega (arith, room-left (a .x) (a .id) (c .pre .0) (c .pre .1) (c .pre .2))
 
--- src/records.rt:23:15
 add-r-3 : tie.Need-add-r-3
 add-r-3 c = let a = c .before .args in omega (arith, room-left (a .x) (a .id) (c .before .pre .0) (c .before .pre .1) (c .before .pre .2))
 
--- src/records.rt:24:32
 shl-r : tie.Need-shl-r
 shl-r c = search needs
 
--- src/records.rt:14:1
 returns : tie.Need-returns
 returns c =
     let s = c .before .before in

@@ -1,23 +1,19 @@
-use Prim.Native.Nat.{ℕ, _-_, _+_, _≤_}
+use Prim.Native.Nat.{ℕ, _-_, _≤_}
 use mathlib.Core.Path.{_≡_, refl, sym, ap, subst, _∙_}
 use mathlib.Core.Bool.{true, false}
 use mathlib.Core.List.{List, [], _∷_, append-nil}
 use mathlib.Core.Logic.{⊎-elim}
 use native.Mathlib.Omega.{arith}
-use lib.ListN.{length}
 use borrow.Author.Tests.{eq-eqb, ne-eqb}
+use lib.ListN.{length}
 use Rattle.network.specs.Graph.{has}
 use Rattle.phy.specs.Slot.{among}
 use Rattle.phy.proofs.Attempts.{among-more}
-use Rattle.sim.specs.declared.pipeline.Records.{Records}
-use Rattle.sim.specs.Round.{Record, recordAll}
+use Rattle.sim.specs.Round.{recordAll}
 use Rattle.sim.specs.View.{Filed, recordsOf}
 use Rattle.sim.proofs.Filing.{recordAll-append}
 use Rattle.sim.proofs.records.record_all.Statement.{statement}
 use Rattle.sim.proofs.records.record_all.Tie as tie
-use Rattle.sim.proofs.records.record_all.Reads as reads
-use Rattle.sim.proofs.records.record_all.Lts as lts
-use Rattle.sim.proofs.records.record_one.Reads as record-one-reads
 
 abbrev Inv-loop : tie.InvT-loop
 Inv-loop starts end newly r₀ t₀ r t = (t ≤ 64) × Filed r × (length starts ≡ 64) × (recordsOf r ≡ recordAll starts end (among t (has newly)) (recordsOf r₀))
@@ -25,28 +21,22 @@ Inv-loop starts end newly r₀ t₀ r t = (t ≤ 64) × Filed r × (length start
 abbrev μ-loop : tie.MeasureT-loop
 μ-loop starts end newly r₀ t₀ r t = 64 - t
 
--- src/records.rt:45:5
 loop-holds : tie.Need-loop-holds Inv-loop μ-loop
 unfolding among recordAll
 loop-holds c = (omega arith, c .pre .0, c .pre .1, refl)
 
--- src/records.rt:46:13
 shr-if1 : tie.Need-shr-if1 Inv-loop μ-loop
 shr-if1 c = omega arith
 
--- src/records.rt:47:13
 record-one-requires : tie.Need-record-one-requires Inv-loop μ-loop
 record-one-requires c κs = let l = c .before .before .loop in (l .inv .1, omega arith, l .inv .2)
 
--- src/records.rt:45:9
 add-t : tie.Need-add-t Inv-loop μ-loop
 add-t c = omega arith
 
--- src/records.rt:45:5
 loop-less : tie.Need-loop-less Inv-loop μ-loop
 loop-less c = omega arith
 
--- src/records.rt:45:5
 loop-again : tie.Need-loop-again Inv-loop μ-loop
 unfolding has
 loop-again c =
@@ -70,7 +60,6 @@ loop-again c =
     ))
     (c .if1 .came)
 
--- src/records.rt:40:1
 returns : tie.Need-returns Inv-loop μ-loop
 returns c =
     let l = c .before .loop in

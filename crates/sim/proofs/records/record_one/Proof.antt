@@ -1,20 +1,15 @@
 use mathlib.Core.Path.{sym, _∙_}
 use borrow.Author.Tests.{eq-eqb, ne-eqb}
+use borrow.Author.Needs.{needs}
 use Rattle.network.specs.Graph.{has}
 use Rattle.sim.specs.View.{recordsOf}
 use Rattle.sim.proofs.Filing.{record-known, record-new}
-use borrow.Author.Needs.{needs}
 use Rattle.sim.proofs.records.record_one.Statement.{statement}
 use Rattle.sim.proofs.records.record_one.Tie as tie
-use Rattle.sim.proofs.records.record_one.Reads as reads
-use Rattle.sim.proofs.records.record_one.Lts as lts
-use Rattle.sim.proofs.records.add.Reads as add-reads
 
--- src/records.rt:33:9
 shr-if1 : tie.Need-shr-if1
 shr-if1 c = search needs
 
--- src/records.rt:34:9
 returns : tie.Need-returns
 unfolding has
 returns c =
@@ -22,22 +17,18 @@ returns c =
     let a = s .args in
     (s .pre .0, sym (record-known (a .t2) (a .end) (a .t) (recordsOf (a .x)) (sym (s .pre .0 .known (a .t) (s .pre .1)) ∙ eq-eqb _ 1 (c .if1 .taken))))
 
--- src/records.rt:36:15
 mul-add : tie.Need-mul-add
 mul-add c = search needs
 
--- src/records.rt:36:15
 array-read-add : tie.Need-array-read-add
 array-read-add c = search needs
 
--- src/records.rt:36:5
 add-requires : tie.Need-add-requires
 unfolding has
 add-requires c κs =
     let s = c .before .before in
     (s .pre .0, s .pre .1, ne-eqb _ 1 (c .if1 .left))
 
--- src/records.rt:29:1
 returns-2 : tie.Need-returns-2
 unfolding has
 returns-2 c =

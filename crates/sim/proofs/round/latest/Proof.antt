@@ -1,25 +1,19 @@
 use mathlib.Core.Path.{sym, ap}
+use borrow.Author.Needs.{needs}
 use Rattle.phy.specs.declared.packet.Piggyback.{Piggyback}
 use Rattle.sim.specs.Round.{latest}
-use borrow.Author.Needs.{needs}
 use Rattle.sim.proofs.round.latest.Statement.{statement}
 use Rattle.sim.proofs.round.latest.Tie as tie
-use Rattle.sim.proofs.round.latest.Reads as reads
-use Rattle.sim.proofs.round.latest.Lts as lts
 
--- src/round.rt:84:28
 enum-told : tie.Need-enum-told
 enum-told c = search needs
 
--- src/round.rt:85:23
 enum-known-turn : tie.Need-enum-known-turn
 enum-known-turn c = search needs
 
--- src/round.rt:80:1
 returns : tie.Need-returns
 returns c = search needs
 
--- src/round.rt:80:1
 returns-2 : tie.Need-returns-2
 returns-2 c = sym (ap (λ (p : Piggyback). latest p (c .before .before .before .args .before)) (c .before .turn .given .1))
 

@@ -1,8 +1,9 @@
-use Prim.Native.Nat.{ℕ, _+_, _≤_}
-use mathlib.Core.Path.{_≡_, refl, sym, ap, subst, subst⁻¹, _∙_}
-use mathlib.Core.Bool.{Bool, cond}
-use mathlib.Core.List.{List, [], _∷_, _++_}
+use Prim.Native.Nat.{ℕ, _+_}
+use mathlib.Core.Path.{_≡_, sym, ap, subst, subst⁻¹, _∙_}
+use mathlib.Core.Bool.{cond}
+use mathlib.Core.List.{List}
 use native.Mathlib.Omega.{arith}
+use borrow.Author.Needs.{needs}
 use lib.Dec.{ltb}
 use lib.ListN.{set, take}
 use Rattle.network.specs.Graph.{has}
@@ -12,28 +13,18 @@ use Rattle.protocol.proofs.Chains.{back-mono}
 use Rattle.protocol.specs.Turns.{Initiated, counted, initiatorTurn}
 use Rattle.protocol.specs.View.{view, Kept, Carried}
 use Rattle.sim.specs.Round.{stateOf, recordAll, prepareRound}
-use Rattle.sim.specs.View.{Sharing, Started, sharedOf, statesOf, nodeAt, recordsOf}
+use Rattle.sim.specs.View.{Started, sharedOf, statesOf, nodeAt, recordsOf}
 use Rattle.sim.proofs.Filing.{recordAll-cong}
 use Rattle.sim.proofs.Sharing.{counted-is, proposing, at-most-one, state-at, states-set, start-at, initiator-newly, kept-set}
-use borrow.Author.Needs.{needs}
 use Rattle.sim.proofs.round.prepare_round.Statement.{statement}
 use Rattle.sim.proofs.round.prepare_round.Tie as tie
-use Rattle.sim.proofs.round.prepare_round.Reads as reads
-use Rattle.sim.proofs.round.prepare_round.Lts as lts
-use Rattle.protocol.proofs.turns.initiator_turn.Reads as initiator-turn-reads
-use Rattle.sim.proofs.records.record_all.Reads as record-all-reads
-use Rattle.sim.proofs.round.one_if.Reads as one-if-reads
-use Rattle.sim.proofs.round.started.Reads as started-reads
 
--- src/round.rt:53:13
 mul-v : tie.Need-mul-v
 mul-v c = search needs
 
--- src/round.rt:53:13
 element-copy-out-v : tie.Need-element-copy-out-v
 element-copy-out-v c = search needs
 
--- src/round.rt:57:9
 initiator-turn-requires : tie.Need-initiator-turn-requires
 initiator-turn-requires c κs =
     let start = c .before .before in
@@ -41,15 +32,12 @@ initiator-turn-requires c κs =
     let most = proposing (a .x .counter) (a .proposals) (start .pre .0 .2 .few) (start .pre .3) in
     (start .pre .0 .2 .kept .each (a .initiator .0) (start .pre .1), (omega (arith, counted-is (ltb (a .x .counter) (a .proposals)) (a .x .counter), most), omega (arith, start .pre .1, start .pre .2)))
 
--- src/round.rt:59:5
 mul-w : tie.Need-mul-w
 mul-w c = search needs
 
--- src/round.rt:59:5
 element-set-from-w : tie.Need-element-set-from-w
 element-set-from-w c = search needs
 
--- src/round.rt:62:9
 started-requires : tie.Need-started-requires
 started-requires c κs =
     let start = c .before .before .before .before .before .before in
@@ -57,15 +45,12 @@ started-requires c κs =
     let most = proposing (a .x .counter) (a .proposals) (start .pre .0 .2 .few) (start .pre .3) in
     (start .pre .0 .2 .started, most)
 
--- src/round.rt:64:9
 record-all-requires : tie.Need-record-all-requires
 record-all-requires c κs = search needs
 
--- src/round.rt:68:32
 one-if-requires : tie.Need-one-if-requires
 one-if-requires c κs = search needs
 
--- src/round.rt:68:22
 add-t27 : tie.Need-add-t27
 add-t27 c =
     let start = c .before .before .before .before .before .before .before .before .before .before in
@@ -73,17 +58,14 @@ add-t27 c =
     let most = proposing (a .x .counter) (a .proposals) (start .pre .0 .2 .few) (start .pre .3) in
     omega (arith, most, c .one-if .ensures)
 
--- src/round.rt:72:30
 one-if-requires-2 : tie.Need-one-if-requires-2
 one-if-requires-2 c κs = search needs
 
--- src/round.rt:72:20
 add-t30 : tie.Need-add-t30
 add-t30 c =
     let start = c .before .before .before .before .before .before .before .before .before .before .before .before .before in
     omega (arith, start .pre .0 .2 .nacks, start .pre .0 .3, c .before .one-if2 .ensures, at-most-one (ltb 0 (c .before .before .before .before .before .before .before .before .before .before .initiator-turn .result .packet .«nack_term» .0)))
 
--- src/round.rt:47:1
 returns : tie.Need-returns
 unfolding sharedOf prepareRound
 returns c =

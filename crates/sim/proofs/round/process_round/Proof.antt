@@ -1,24 +1,17 @@
-use mathlib.Core.Path.{subst₂}
-use native.Mathlib.Nat.{add-zero, add-assoc}
-use Rattle.protocol.specs.View.{Carried}
-use Rattle.sim.specs.declared.pipeline.Shared.{Shared}
-use Rattle.sim.proofs.Sharing.{cleared-sharing, sharing-more}
 use Prim.Native.Nat.{ℕ, _+_, _-_, _≤_}
-use mathlib.Core.Path.{_≡_, refl, sym, ap, subst, subst⁻¹, _∙_}
-use mathlib.Core.Bool.{Bool, true, false}
+use mathlib.Core.Path.{subst₂, _≡_, refl, sym, ap, subst, subst⁻¹, _∙_}
 use mathlib.Core.Logic.{⊎-elim}
+use native.Mathlib.Nat.{add-zero, add-assoc}
 use native.Mathlib.Omega.{arith}
 use borrow.Author.Tests.{eq-eqb, ne-eqb}
+use Rattle.protocol.specs.View.{Carried}
+use Rattle.sim.specs.declared.pipeline.Shared.{Shared}
+use Rattle.sim.proofs.Sharing.{cleared-sharing, sharing-more, turns-more, turns-same}
 use Rattle.network.specs.Graph.{has}
 use Rattle.sim.specs.Round.{turns, takeTurn, processRound}
 use Rattle.sim.specs.View.{Sharing, sharedOf}
-use Rattle.sim.proofs.Sharing.{turns-more, turns-same}
 use Rattle.sim.proofs.round.process_round.Statement.{statement}
 use Rattle.sim.proofs.round.process_round.Tie as tie
-use Rattle.sim.proofs.round.process_round.Reads as reads
-use Rattle.sim.proofs.round.process_round.Lts as lts
-use Rattle.sim.proofs.round.cleared.Reads as cleared-reads
-use Rattle.sim.proofs.round.take_turn.Reads as take-turn-reads
 
 abbrev Inv-loop : tie.InvT-loop
 Inv-loop n packet slot part y₀ j₀ y j =
@@ -30,20 +23,16 @@ Inv-loop n packet slot part y₀ j₀ y j =
 abbrev μ-loop : tie.MeasureT-loop
 μ-loop n packet slot part y₀ j₀ y j = n - j
 
--- src/round.rt:148:9
 cleared-requires : tie.Need-cleared-requires Inv-loop μ-loop
 cleared-requires c κs = tt
 
--- src/round.rt:149:5
 loop-holds : tie.Need-loop-holds Inv-loop μ-loop
 unfolding turns
 loop-holds c = (omega arith, refl, (λ a b s. subst (λ (m : ℕ). Sharing (c .before .args .n) a m (c .cleared .result)) (sym (add-zero b)) s), (λ a b s. refl))
 
--- src/round.rt:150:13
 shr-if1 : tie.Need-shr-if1 Inv-loop μ-loop
 shr-if1 c = omega arith
 
--- src/round.rt:151:13
 take-turn-requires : tie.Need-take-turn-requires Inv-loop μ-loop
 take-turn-requires c κs =
     let l = c .before .before .loop in
@@ -55,15 +44,12 @@ take-turn-requires c κs =
       subst⁻¹ (λ (m : ℕ). Carried m (a .packet)) (l .inv .1 ∙ ap (λ (x : Shared). x .counter) same) (start .pre .2),
     )
 
--- src/round.rt:149:9
 add-j : tie.Need-add-j Inv-loop μ-loop
 add-j c = omega arith
 
--- src/round.rt:149:5
 loop-less : tie.Need-loop-less Inv-loop μ-loop
 loop-less c = omega arith
 
--- src/round.rt:149:5
 loop-again : tie.Need-loop-again Inv-loop μ-loop
 unfolding has
 loop-again c =
@@ -86,7 +72,6 @@ loop-again c =
     ))
     (c .if1 .came)
 
--- src/round.rt:144:1
 returns : tie.Need-returns Inv-loop μ-loop
 unfolding processRound sharedOf
 returns c =

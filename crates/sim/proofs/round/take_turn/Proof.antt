@@ -2,6 +2,7 @@ use Prim.Native.Nat.{ℕ, _+_}
 use mathlib.Core.Path.{_≡_, refl, sym, ap, subst⁻¹, _∙_}
 use mathlib.Core.List.{List}
 use native.Mathlib.Omega.{arith}
+use borrow.Author.Needs.{needs}
 use lib.ListN.{set, take}
 use Rattle.network.specs.Graph.{has}
 use Rattle.phy.specs.Slot.{among}
@@ -14,25 +15,15 @@ use Rattle.sim.specs.Round.{stateOf, recordAll, takeTurn, latest, onePig
 use Rattle.sim.specs.View.{sharedOf, statesOf, nodeAt, recordsOf}
 use Rattle.sim.proofs.Filing.{recordAll-cong}
 use Rattle.sim.proofs.Sharing.{state-at, states-set, start-at, participant-newly, kept-set, latest-below, one-at-most}
-use borrow.Author.Needs.{needs}
 use Rattle.sim.proofs.round.take_turn.Statement.{statement}
 use Rattle.sim.proofs.round.take_turn.Tie as tie
-use Rattle.sim.proofs.round.take_turn.Reads as reads
-use Rattle.sim.proofs.round.take_turn.Lts as lts
-use Rattle.protocol.proofs.turns.participant_turn.Reads as participant-turn-reads
-use Rattle.sim.proofs.records.record_all.Reads as record-all-reads
-use Rattle.sim.proofs.round.latest.Reads as latest-reads
-use Rattle.sim.proofs.round.one_piggyback.Reads as one-piggyback-reads
 
--- src/round.rt:105:13
 mul-v : tie.Need-mul-v
 mul-v c = search needs
 
--- src/round.rt:105:13
 element-copy-out-v : tie.Need-element-copy-out-v
 element-copy-out-v c = search needs
 
--- src/round.rt:106:9
 participant-turn-requires : tie.Need-participant-turn-requires
 participant-turn-requires c κs =
     let start = c .before .before in
@@ -40,33 +31,26 @@ participant-turn-requires c κs =
     let s = start .pre .0 .3 in
     (kept-mono (s .few) (omega arith) (s .kept .each (a .node .0) (start .pre .0 .4)), (carried-mono (s .few) (start .pre .1), omega (arith, start .pre .0 .4, start .pre .0 .5)))
 
--- src/round.rt:108:5
 mul-w : tie.Need-mul-w
 mul-w c = search needs
 
--- src/round.rt:108:5
 element-set-from-w : tie.Need-element-set-from-w
 element-set-from-w c = search needs
 
--- src/round.rt:111:9
 record-all-requires : tie.Need-record-all-requires
 record-all-requires c κs = search needs
 
--- src/round.rt:119:20
 latest-requires : tie.Need-latest-requires
 latest-requires c κs = search needs
 
--- src/round.rt:121:36
 one-piggyback-requires : tie.Need-one-piggyback-requires
 one-piggyback-requires c κs = search needs
 
--- src/round.rt:121:21
 add-t24 : tie.Need-add-t24
 add-t24 c =
     let start = c .before .before .before .before .before .before .before .before .before .before in
     omega (arith, start .pre .0 .3 .piggybacks, start .pre .0 .6, c .before .one-piggyback .ensures, one-at-most (c .before .before .before .before .before .before .before .participant-turn .result .recovery))
 
--- src/round.rt:99:1
 returns : tie.Need-returns
 unfolding sharedOf takeTurn
 returns c =

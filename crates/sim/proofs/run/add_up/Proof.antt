@@ -1,8 +1,8 @@
 use Prim.Native.Nat.{ℕ, _+_, _-_, _*_, _^_, _≤_, _<_}
-use mathlib.Core.Path.{_≡_, refl, sym, ap, ap₂, subst, _∙_}
+use mathlib.Core.Path.{_≡_, refl, sym, ap, subst, _∙_}
+use mathlib.Core.List.{List}
 use native.Mathlib.Numerals.{add-one}
 use native.Mathlib.Omega.{arith}
-use mathlib.Core.List.{List}
 use lib.ListN.{getD, take}
 use lib.Seq.{getD-take}
 use Rattle.phy.specs.declared.node.Node.{Node}
@@ -10,10 +10,10 @@ use Rattle.phy.specs.Node.{new, total}
 use Rattle.phy.specs.View.{nodesOf}
 use Rattle.sim.specs.Entries.{sumOf}
 use Rattle.sim.specs.Going.{SumsUp}
-use Rattle.sim.proofs.run.add_up.Statement.{statement}
-use Rattle.sim.proofs.run.add_up.Tie as tie
 use Rattle.sim.proofs.run.add_up.Reads as reads
 use Rattle.sim.proofs.run.add_up.Lts as lts
+use Rattle.sim.proofs.run.add_up.Statement.{statement}
+use Rattle.sim.proofs.run.add_up.Tie as tie
 
 abbrev Inv-loop : tie.InvT-loop
 Inv-loop n radios listen₀ flood₀ sleep₀ j₀ listen flood sleep j =
@@ -42,40 +42,31 @@ few-slots c =
     let j = c .before .loop .j in
     omega (arith, pre .2 .1, pre .2 .2 j (omega arith), ap total (getD-take (a .n) (a .t1 .at) j new (omega arith)))
 
--- src/run.rt:99:5
 loop-holds : tie.Need-loop-holds Inv-loop μ-loop
 unfolding sumOf
 loop-holds c = (omega arith, refl, refl, refl, omega arith, omega arith, omega arith)
 
--- src/run.rt:100:17
 mul-v : tie.Need-mul-v Inv-loop μ-loop
 mul-v c = omega arith
 
--- src/run.rt:100:17
 element-copy-out-v : tie.Need-element-copy-out-v Inv-loop μ-loop
 element-copy-out-v c = omega arith
 
--- src/run.rt:101:9
 add-listen : tie.Need-add-listen Inv-loop μ-loop
 add-listen c = omega (arith, c .before .before .before .loop .inv .4, few-slots (c .before .before))
 
--- src/run.rt:102:9
 add-flood : tie.Need-add-flood Inv-loop μ-loop
 add-flood c = omega (arith, c .before .before .before .before .loop .inv .5, few-slots (c .before .before .before))
 
--- src/run.rt:103:9
 add-sleep : tie.Need-add-sleep Inv-loop μ-loop
 add-sleep c = omega (arith, c .before .before .before .before .before .loop .inv .6, few-slots (c .before .before .before .before))
 
--- src/run.rt:99:9
 add-j : tie.Need-add-j Inv-loop μ-loop
 add-j c = omega arith
 
--- src/run.rt:99:5
 loop-less : tie.Need-loop-less Inv-loop μ-loop
 loop-less c = omega arith
 
--- src/run.rt:99:5
 loop-again : tie.Need-loop-again Inv-loop μ-loop
 loop-again c =
     let l = c .before .before .before .before .before .loop in
@@ -92,7 +83,6 @@ loop-again c =
       omega (arith, l .inv .6, here),
     )
 
--- src/run.rt:92:1
 returns : tie.Need-returns Inv-loop μ-loop
 returns c =
     let l = c .before .loop in

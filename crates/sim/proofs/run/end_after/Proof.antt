@@ -2,34 +2,25 @@ use borrow.Author.Tests.{lt-ltb, le-ltb}
 use borrow.Author.Needs.{needs}
 use Rattle.sim.proofs.run.end_after.Statement.{statement}
 use Rattle.sim.proofs.run.end_after.Tie as tie
-use Rattle.sim.proofs.run.end_after.Reads as reads
-use Rattle.sim.proofs.run.end_after.Lts as lts
 
--- src/run.rt:160:58
 mul-recorded : tie.Need-mul-recorded
 mul-recorded c = search needs
 
--- src/run.rt:160:46
 add-recorded : tie.Need-add-recorded
 add-recorded c = search needs
 
--- src/run.rt:162:9
 returns : tie.Need-returns
 returns c = search needs
 
--- src/run.rt:165:9
 returns-2 : tie.Need-returns-2
 returns-2 c = rw (c .before .if1 .left, c .if2 .taken)
 
--- src/run.rt:167:8
 add-if3 : tie.Need-add-if3
 add-if3 c = search needs
 
--- src/run.rt:156:1
 returns-3 : tie.Need-returns-3
 returns-3 c = rw (c .before .before .if1 .left, c .before .if2 .left, lt-ltb _ _ (c .if3 .taken))
 
--- src/run.rt:156:1
 returns-4 : tie.Need-returns-4
 returns-4 c = rw (c .before .before .if1 .left, c .before .if2 .left, le-ltb _ _ (c .if3 .left))
 

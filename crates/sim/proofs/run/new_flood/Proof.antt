@@ -1,33 +1,24 @@
 use Prim.Native.Nat.{_-_, _*_, _%_, _^_}
 use native.Mathlib.Omega.{arith}
+use borrow.Author.Needs.{needs}
 use lib.Pow.{pow-pos}
 use Rattle.network.proofs.Sets.{one-shl}
 use Rattle.sim.proofs.Beginning.{new-flood}
-use borrow.Author.Needs.{needs}
 use Rattle.sim.proofs.run.new_flood.Statement.{statement}
 use Rattle.sim.proofs.run.new_flood.Tie as tie
-use Rattle.sim.proofs.run.new_flood.Reads as reads
-use Rattle.sim.proofs.run.new_flood.Lts as lts
-use Rattle.network.proofs.draws.DrawSource.new.Reads as draws-DrawSource-new-reads
-use Rattle.phy.proofs.node.new.Reads as node-new-reads
 
--- src/run.rt:48:9
 new-requires : tie.Need-new-requires
 new-requires c κs = search needs
 
--- src/run.rt:51:21
 shl-t8 : tie.Need-shl-t8
 shl-t8 c = search needs
 
--- src/run.rt:51:20
 sub-t9 : tie.Need-sub-t9
 sub-t9 c = omega (arith, one-shl 64 (c .before .args .n) (omega arith), pow-pos (c .before .args .n))
 
--- src/run.rt:54:9
 new-requires-2 : tie.Need-new-requires-2
 new-requires-2 c κs = search needs
 
--- src/run.rt:44:1
 returns : tie.Need-returns
 returns c =
     let a = c .before .before .args in

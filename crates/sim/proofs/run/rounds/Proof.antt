@@ -11,14 +11,6 @@ use Rattle.sim.specs.Going.{Underway}
 use Rattle.sim.proofs.Underway.{underway-new, at-limit, at-end, at-most, goes-on, ends-as, end-is, states-are, kept-all}
 use Rattle.sim.proofs.run.rounds.Statement.{statement}
 use Rattle.sim.proofs.run.rounds.Tie as tie
-use Rattle.sim.proofs.run.rounds.Reads as reads
-use Rattle.sim.proofs.run.rounds.Lts as lts
-use Rattle.phy.proofs.ci.length_limit.Reads as length-limit-reads
-use Rattle.sim.proofs.run.end_after.Reads as end-after-reads
-use Rattle.sim.proofs.run.new_flood.Reads as new-flood-reads
-use Rattle.sim.proofs.run.new_shared.Reads as new-shared-reads
-use Rattle.sim.proofs.run.run_round.Reads as run-round-reads
-use Rattle.sim.proofs.survey.survey.Reads as survey-reads
 
 abbrev Inv-loop : tie.InvT-loop
 Inv-loop graph n diameter config snapshots₀ proposals limit most x₀ progress₀ k₀ snapshots x progress k =
@@ -27,65 +19,52 @@ Inv-loop graph n diameter config snapshots₀ proposals limit most x₀ progress
 abbrev μ-loop : tie.MeasureT-loop
 μ-loop graph n diameter config snapshots₀ proposals limit most x₀ progress₀ k₀ snapshots x progress k = most - k
 
--- src/run.rt:177:9
 length-limit-requires : tie.Need-length-limit-requires Inv-loop μ-loop
 length-limit-requires c κs = (omega (arith, c .before .pre .short), c .before .pre .repeats-high)
 
--- src/run.rt:178:16
 add-most : tie.Need-add-most Inv-loop μ-loop
 add-most c = omega (arith, c .before .before .pre .proposals)
 
--- src/run.rt:180:16
 new-flood-requires : tie.Need-new-flood-requires Inv-loop μ-loop
 new-flood-requires c κs = (omega (arith, c .before .before .pre .two), c .before .before .pre .few)
 
--- src/run.rt:181:17
 new-shared-requires : tie.Need-new-shared-requires Inv-loop μ-loop
 new-shared-requires c κs = c .before .before .before .pre .few
 
--- src/run.rt:186:5
 loop-holds : tie.Need-loop-holds Inv-loop μ-loop
 loop-holds c =
     let a = c .before .before .before .before .args in
     underway-new (now (a .graph)) (a .n) (a .diameter) (a .config) (now (a .snapshots)) (c .before .new-flood .result) (c .new-shared .result) (c .before .before .before .before .pre) (c .before .new-flood .ensures) (c .new-shared .ensures)
 
--- src/run.rt:188:13
 same-length : tie.Need-same-length Inv-loop μ-loop
 same-length c = c .before .before .before .before .loop .inv .size
 
--- src/run.rt:188:13
 returns : tie.Need-returns Inv-loop μ-loop
 returns c =
     let u = c .before .before .before .before .loop .inv in
     let stops = at-limit u (c .before .before .before .loop-test .taken) (c .if1 .taken) in
     ends-as _ stops (u .going) refl (omega (arith, u .in-time, c .before .before .before .before .before .before .before .before .before .pre .proposals))
 
--- src/run.rt:194:9
 run-round-requires : tie.Need-run-round-requires Inv-loop μ-loop
 run-round-requires c κs =
     let u = c .before .before .before .before .before .loop .inv in
     (c .before .before .before .before .before .before .before .before .before .before .pre, c .before .before .before .before .before .before .before .before .length-limit .ensures, omega (arith, u .in-time, c .before .before .before .before .before .before .before .before .before .before .pre .proposals), (u .here, u .going, u .shown))
 
--- src/run.rt:195:13
 survey-requires : tie.Need-survey-requires Inv-loop μ-loop
 survey-requires c κs =
     let u = c .before .before .before .before .before .before .before .before .loop .inv in
     let ok = c .before .before .before .before .before .before .before .before .before .before .before .before .before .pre in
     (kept-all (c .before .before .run-round .ensures (u .here) (u .shown) (u .going)), omega (arith, ok .two), ok .few, ok .proposals)
 
--- src/run.rt:197:13
 end-after-requires : tie.Need-end-after-requires Inv-loop μ-loop
 end-after-requires c κs = (c .before .before .before .before .before .before .before .before .before .before .before .before .before .before .pre .proposals, omega (arith, c .before .before .before .before .before .before .before .before .before .before .before .before .before .before .pre .short))
 
--- src/run.rt:198:9
 add-k : tie.Need-add-k Inv-loop μ-loop
 add-k c = omega (arith, c .before .before .before .before .before .before .before .before .before .before .loop .inv .in-time, c .before .before .before .before .before .before .before .before .before .before .before .before .before .before .before .pre .proposals)
 
--- src/run.rt:200:13
 same-length-2 : tie.Need-same-length-2 Inv-loop μ-loop
 same-length-2 c = c .before .before .before .before .before .run-round .kept .1 .1 .1 .1 .1 .1 .1 .1 .0 ∙ c .before .before .before .before .before .before .before .before .before .before .before .loop .inv .size
 
--- src/run.rt:200:13
 returns-2 : tie.Need-returns-2 Inv-loop μ-loop
 returns-2 c =
     let a = c .before .before .before .before .before .before .before .before .before .before .before .before .before .before .before .before .args in
@@ -95,11 +74,9 @@ returns-2 c =
     let stops = at-end u (c .before .before .before .before .before .before .before .before .before .before .loop-test .taken) (c .before .end-after .result) (c .before .before .before .before .before .before .before .if1 .left) end (c .if2 .taken) in
     ends-as _ stops next refl (omega (arith, c .before .before .before .before .before .before .before .before .before .before .loop-test .taken, c .before .before .before .before .before .before .before .before .before .before .before .before .before .before .before .before .pre .proposals))
 
--- src/run.rt:186:5
 loop-less : tie.Need-loop-less Inv-loop μ-loop
 loop-less c = omega (arith, c .before .before .before .before .before .before .before .before .before .before .loop-test .taken)
 
--- src/run.rt:186:5
 loop-again : tie.Need-loop-again Inv-loop μ-loop
 loop-again c =
     let a = c .before .before .before .before .before .before .before .before .before .before .before .before .before .before .before .before .args in
@@ -115,11 +92,9 @@ loop-again c =
       size = c .before .before .before .before .before .run-round .kept .1 .1 .1 .1 .1 .1 .1 .1 .0 ∙ u .size;
     }
 
--- src/run.rt:171:1
 same-length-3 : tie.Need-same-length-3 Inv-loop μ-loop
 same-length-3 c = c .before .loop .inv .size
 
--- src/run.rt:171:1
 returns-3 : tie.Need-returns-3 Inv-loop μ-loop
 returns-3 c =
     let u = c .before .loop .inv in

@@ -1,7 +1,8 @@
-use Prim.Native.Nat.{ℕ, _+_, _*_, _%_, _≤_}
+use Prim.Native.Nat.{ℕ, _+_, _*_, _%_}
 use mathlib.Core.Path.{_≡_, ap, ap₂, _∙_}
 use native.Mathlib.Nat.{mod-lt}
 use native.Mathlib.Omega.{arith}
+use borrow.Author.Needs.{needs}
 use lib.ListN.{length-append}
 use denote.Ref.{now}
 use Rattle.network.specs.Reception.{heard}
@@ -13,20 +14,12 @@ use Rattle.sim.specs.Run.{setupOf, runRound}
 use Rattle.sim.specs.View.{givenAs, sharedOf}
 use Rattle.sim.proofs.Sharing.{sharing-more}
 use Rattle.sim.proofs.Rounds.{limit-few, sound-as, covered-few}
-use borrow.Author.Needs.{needs}
 use Rattle.sim.proofs.run.run_round.Statement.{statement}
 use Rattle.sim.proofs.run.run_round.Tie as tie
-use Rattle.sim.proofs.run.run_round.Reads as reads
-use Rattle.sim.proofs.run.run_round.Lts as lts
-use Rattle.phy.proofs.ci.flood_identical_round.Reads as flood-identical-round-reads
-use Rattle.sim.proofs.round.prepare_round.Reads as prepare-round-reads
-use Rattle.sim.proofs.round.process_round.Reads as process-round-reads
 
--- src/run.rt:117:29
 rem-t23 : tie.Need-rem-t23
 rem-t23 c = search needs
 
--- src/run.rt:121:9
 prepare-round-requires : tie.Need-prepare-round-requires
 prepare-round-requires c κs =
     let start = c .before .before .before .before in
@@ -35,11 +28,9 @@ prepare-round-requires c κs =
     let g = start .pre .3 .1 in
     ((a .k, 32 * a .k, g .sharing, omega (arith, start .pre .2)), mod-lt (a .k) (omega (arith, ok .two)), ok .few, ok .proposals)
 
--- src/run.rt:125:18
 cast-t25 : tie.Need-cast-t25
 cast-t25 c = search needs
 
--- src/run.rt:130:9
 flood-identical-round-requires : tie.Need-flood-identical-round-requires
 flood-identical-round-requires c κs =
     let start = c .before .before .before .before .before .before .before .before in
@@ -49,7 +40,6 @@ flood-identical-round-requires c κs =
     let few = limit-few (a .config .«round_slots») (a .diameter) (a .config .«flood_repeats») (ok .slots) (ok .short) (ok .repeats-high) in
     (sound-as (a .n) (a .config) 0 (a .progress) (g .sound), omega (arith, start .pre .1, few, g .slots, start .pre .2))
 
--- src/run.rt:134:9
 process-round-requires : tie.Need-process-round-requires
 process-round-requires c κs =
     let start = c .before .before .before .before .before .before .before .before .before .before .before .before .before .before in
@@ -58,7 +48,6 @@ process-round-requires c κs =
     let prepared = c .before .before .before .before .before .before .before .before .before .prepare-round .ensures in
     ((a .k + 1, 32 * a .k, prepared .sharing (a .k) (32 * a .k) (g .sharing), omega (arith, start .pre .2)), start .pre .0 .few, prepared .carried)
 
--- src/run.rt:138:18
 add-t22 : tie.Need-add-t22
 add-t22 c =
     let start = c .before .before .before .before .before .before .before .before .before .before .before .before .before .before .before .before .before in
@@ -67,11 +56,9 @@ add-t22 c =
     let m = c .before .before .before .before .before .before .before .before .flood-identical-round .ensures .meets (a .config .seed) (g .ready) in
     omega (arith, g .few, start .pre .0 .few, start .pre .2, ap (λ (f : Flooded). f .covered) (m .0), covered-few (record { rows = now (a .graph); nodes = a .n; repeats = a .config .«flood_repeats»; interval = a .config .«snapshot_interval»; progress = a .progress; heard = heard (a .config .«loss_rate») (a .config .seed) }) (a .limit) (a .k % a .n) (c .before .before .before .before .before .before .before .before .before .before .before .before .prepare-round .result .packet) (standingOf (a .n) (a .x .flood) (now (a .snapshots))))
 
--- src/run.rt:113:1
 same-length : tie.Need-same-length
 same-length c = search needs
 
--- src/run.rt:113:1
 returns : tie.Need-returns
 unfolding runRound
 returns c = λ s shown g.

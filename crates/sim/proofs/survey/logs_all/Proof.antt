@@ -9,8 +9,6 @@ use Rattle.protocol.specs.Paxos.{logged}
 use Rattle.protocol.specs.View.{view}
 use Rattle.sim.proofs.survey.logs_all.Statement.{statement}
 use Rattle.sim.proofs.survey.logs_all.Tie as tie
-use Rattle.sim.proofs.survey.logs_all.Reads as reads
-use Rattle.sim.proofs.survey.logs_all.Lts as lts
 
 abbrev Inv-loop : tie.InvT-loop
 Inv-loop proposals state t₀ t = (t ≤ proposals) × (all t (λ (u : ℕ). logged u (view state .log)) ≡ true)
@@ -18,38 +16,31 @@ Inv-loop proposals state t₀ t = (t ≤ proposals) × (all t (λ (u : ℕ). log
 abbrev μ-loop : tie.MeasureT-loop
 μ-loop proposals state t₀ t = proposals - t
 
--- src/survey.rt:30:5
 loop-holds : tie.Need-loop-holds Inv-loop μ-loop
 unfolding all
 loop-holds c = (omega arith, refl)
 
--- src/survey.rt:31:12
 element-copy-out-if1 : tie.Need-element-copy-out-if1 Inv-loop μ-loop
 element-copy-out-if1 c = omega arith
 
--- src/survey.rt:32:13
 returns : tie.Need-returns Inv-loop μ-loop
 returns c =
     let l = c .before .before .before .loop in
     let a = c .before .before .before .before .args in
     sym (all-false (a .proposals) (λ (u : ℕ). logged u (view (a .t1) .log)) (l .t) (omega arith) (c .before .before .before .before .pre .0 .logged-is (l .t) ∙ ne-eqb _ 2 (c .if1 .taken)))
 
--- src/survey.rt:30:9
 add-t : tie.Need-add-t Inv-loop μ-loop
 add-t c = omega arith
 
--- src/survey.rt:30:5
 loop-less : tie.Need-loop-less Inv-loop μ-loop
 loop-less c = omega arith
 
--- src/survey.rt:30:5
 loop-again : tie.Need-loop-again Inv-loop μ-loop
 loop-again c =
     let l = c .before .before .before .loop in
     let a = c .before .before .before .before .args in
     (omega arith, all-more (l .t) (λ (u : ℕ). logged u (view (a .t1) .log)) (l .inv .1) (c .before .before .before .before .pre .0 .logged-is (l .t) ∙ eq-eqb _ 2 (c .if1 .left)))
 
--- src/survey.rt:26:1
 returns-2 : tie.Need-returns-2 Inv-loop μ-loop
 returns-2 c =
     let l = c .before .loop in

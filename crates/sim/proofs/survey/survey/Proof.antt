@@ -12,10 +12,6 @@ use Rattle.sim.specs.View.{statesOf}
 use Rattle.sim.proofs.Sharing.{state-at, log-length}
 use Rattle.sim.proofs.survey.survey.Statement.{statement}
 use Rattle.sim.proofs.survey.survey.Tie as tie
-use Rattle.sim.proofs.survey.survey.Reads as reads
-use Rattle.sim.proofs.survey.survey.Lts as lts
-use Rattle.sim.proofs.survey.logs_all.Reads as logs-all-reads
-use Rattle.sim.proofs.survey.smaller.Reads as smaller-reads
 
 abbrev Inv-loop : tie.InvT-loop
 Inv-loop n proposals states shortest₀ complete₀ j₀ shortest complete j =
@@ -26,11 +22,9 @@ Inv-loop n proposals states shortest₀ complete₀ j₀ shortest complete j =
 abbrev μ-loop : tie.MeasureT-loop
 μ-loop n proposals states shortest₀ complete₀ j₀ shortest complete j = n - j
 
--- src/survey.rt:43:17
 element-copy-out-first : tie.Need-element-copy-out-first Inv-loop μ-loop
 element-copy-out-first c = omega arith
 
--- src/survey.rt:46:5
 loop-holds : tie.Need-loop-holds Inv-loop μ-loop
 unfolding shortestFrom all
 loop-holds c =
@@ -38,33 +32,26 @@ loop-holds c =
     let pre = c .before .pre in
     (omega arith, sym (log-length (a .n) (a .t1) 0 (pre .0) (pre .1)), refl)
 
--- src/survey.rt:47:17
 mul-v : tie.Need-mul-v Inv-loop μ-loop
 mul-v c = omega arith
 
--- src/survey.rt:47:17
 element-copy-out-v : tie.Need-element-copy-out-v Inv-loop μ-loop
 element-copy-out-v c = omega arith
 
--- src/survey.rt:48:9
 smaller-requires : tie.Need-smaller-requires Inv-loop μ-loop
 smaller-requires c κs = tt
 
--- src/survey.rt:49:31
 logs-all-requires : tie.Need-logs-all-requires Inv-loop μ-loop
 logs-all-requires c κs =
     let start = c .before .before .before .before .before in
     (start .pre .0 .each (c .before .before .before .loop .j) (omega arith), start .pre .3)
 
--- src/survey.rt:46:9
 add-j : tie.Need-add-j Inv-loop μ-loop
 add-j c = omega arith
 
--- src/survey.rt:46:5
 loop-less : tie.Need-loop-less Inv-loop μ-loop
 loop-less c = omega arith
 
--- src/survey.rt:46:5
 loop-again : tie.Need-loop-again Inv-loop μ-loop
 unfolding shortestFrom all
 loop-again c =
@@ -79,7 +66,6 @@ loop-again c =
       ap₂ _&&_ (l .inv .2) (c .logs-all .ensures ∙ ap (λ (s : State). all (a .proposals) (λ (t : ℕ). logged t (s .log))) (sym (state-at (a .n) (a .t1) (l .j) here))) ∙ ap (λ (k : ℕ). all k f) (sym (add-one (l .j))),
     )
 
--- src/survey.rt:39:1
 returns : tie.Need-returns Inv-loop μ-loop
 unfolding complete
 returns c =
