@@ -14,14 +14,13 @@ use Rattle.network.specs.Table.{tabulate}
 use Rattle.network.proofs.Sets.{all-intro, all-false}
 use Rattle.network.proofs.Tables.{length-tabulate, getD-tabulate}
 use Rattle.phy.specs.Slot.{Standing}
-use Rattle.phy.specs.Round.{lengthLimit}
-use Rattle.phy.proofs.Tries.{Even, tallied-round, successes-less}
+use Rattle.phy.proofs.Tries.{Even, successes-less}
 use Rattle.protocol.specs.Paxos.{State, empty, logged}
 use Rattle.protocol.proofs.Places.{either}
-use Rattle.sim.specs.Round.{Shared, stateOf, initiatorOf, prepareRound}
-use Rattle.sim.specs.Run.{Given, Running, Ended, begin, setupOf, runRound, complete, endAfter, roundsFrom, run}
+use Rattle.sim.specs.Round.{Shared, stateOf}
+use Rattle.sim.specs.Run.{Given, Running, Ended, begin, runRound, complete, endAfter, roundsFrom, run}
 use Rattle.sim.specs.ExactRounds.{firstSlot, roundsOf, Suited}
-use Rattle.sim.proofs.Ends.{from-limit, from-next, from-end}
+use Rattle.sim.proofs.Ends.{from-next, from-end, along-rounds, tallied-next}
 use Rattle.sim.proofs.Claimed.{entries, is-logged, not-logged}
 use Rattle.sim.proofs.ExactTurns.{claimed}
 use Rattle.sim.proofs.ExactRound.{recordAt, sharedAt}
@@ -33,20 +32,10 @@ abbrev pub Less : Standing → Standing → Type 0
 Less s t = t .successes + s .attempts ≤ s .successes + t .attempts
 
 less-round : (g : Given) (k : ℕ) (r : Running) → Less (r .standing) (runRound g k r .standing)
-unfolding runRound
-less-round g k r = successes-less (tallied-round (setupOf g (r .shared)) (lengthLimit (g .roundSlots) (g .diameter) (g .repeats)) (initiatorOf (g .nodes) k) (prepareRound (g .nodes) (g .proposals) (initiatorOf (g .nodes) k) (r .standing .slot) (r .shared) .packet) (r .standing))
+less-round g k r = successes-less (tallied-next g k r)
 
 less-from : (g : Given) (most k : ℕ) (r : Running) → Less (r .standing) (roundsFrom g most k r .running .standing)
-unfolding roundsFrom
-less-from g zero k r = omega arith
-less-from g (suc most) k r =
-    ⊎-elim (λ e. subst (λ (x : Ended). Less (r .standing) (x .running .standing)) (sym (from-limit g most k r e)) (omega arith))
-    (λ e.
-    ⊎-elim
-    (λ f. subst (λ (x : Ended). Less (r .standing) (x .running .standing)) (sym (from-next g most k r e f)) (omega (arith, less-round g k r, less-from g most (suc k) (runRound g k r))))
-    (λ f. subst (λ (x : Ended). Less (r .standing) (x .running .standing)) (sym (from-end g most k r e f)) (less-round g k r))
-    (either (eqb (endAfter g k (runRound g k r)) 0)))
-    (either (leb (g .limit) (r .standing .slot)))
+less-from g most k r = along-rounds g (λ i x. Less (r .standing) (x .standing)) (λ i x h. omega (arith, h, less-round g i x)) most k r (omega arith) .holds
 
 -- from the next round on
 less-next : (g : Given) (most k : ℕ) (r : Running) → leb (g .limit) (r .standing .slot) ≡ false → Less (runRound g k r .standing) (roundsFrom g (suc most) k r .running .standing)

@@ -3,7 +3,7 @@
 --     Sharing      what the nodes share between rounds
 --     Rounds       a round of the code beside a round of the definitions
 --     Beginning    a run before its first round
---     Ends         one round more, or an end
+--     Ends         one round more, or an end; what every round keeps
 --     Underway     a run of the code between rounds
 --     Copies       buffers that are filled from the front
 --     Outcomes     what an entry answers
@@ -17,8 +17,12 @@
 --     ExactRun     where it stands after k rounds
 --     ExactEnd     it stops by itself after P + n / 2 rounds
 --     ExactBuffers what the log and record buffers then hold
+--     Admitted     what acceptance says of a run
 --     ExactRounds  demand 3
 --     ExactPrinted the printed run is such a run
+--     NothingLost  attempts and successes are equal exactly when nothing is lost
+--     Tallies      what the nodes share grows by little in a round
+--     Bounds       bounds on the counts of every accepted run
 --     StarredRuns  document 01's starred runs, in one table
 pub mod Filing
 pub mod Sharing
@@ -38,6 +42,10 @@ pub mod Sums
 pub mod ExactRun
 pub mod ExactEnd
 pub mod ExactBuffers
+pub mod Admitted
 pub mod ExactRounds
 pub mod ExactPrinted
+pub mod NothingLost
+pub mod Tallies
+pub mod Bounds
 pub mod StarredRuns

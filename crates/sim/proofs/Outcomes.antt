@@ -59,6 +59,14 @@ all-yes : (qs more : List (Bool × ℕ)) → firstNo qs ≡ none → firstNo (qs
 all-yes [] more e = refl
 all-yes (q ∷ qs) more e = let r = first-yes q qs e in rw (r .0) (all-yes qs more (r .1))
 
+-- both parts pass
+pub both-none : (qs more : List (Bool × ℕ)) → firstNo (qs ++ more) ≡ none → (firstNo qs ≡ none) × (firstNo more ≡ none)
+both-none [] more e = (refl, e)
+both-none (q ∷ qs) more e =
+    let r = first-yes q (qs ++ more) e in
+    let both = both-none qs more (r .1) in
+    (rw (r .0) (both .0), both .1)
+
 -- every question is answered "yes"
 abbrev Yes : List (Bool × ℕ) → Type 0
 Yes [] = Unit {0}
@@ -170,7 +178,7 @@ module _ (rows : List ℕ) (n d : ℕ) (c : Config) (logs records snapshots : Li
       (sym (all-yes (rowsQuestions rows n) (runQuestions c (length logs) (length records)) e ∙ f))
 
 -- ---- a topology: what the builder's answer says, for a place for each of the most nodes
-topology-nodes : (topology first second : ℕ) → firstNo (topologyQuestions topology first second) ≡ none → within 2 maxNodes (nodesOf topology first second) ≡ true
+pub topology-nodes : (topology first second : ℕ) → firstNo (topologyQuestions topology first second) ≡ none → within 2 maxNodes (nodesOf topology first second) ≡ true
 topology-nodes topology first second e =
     let y = yes (topologyQuestions topology first second) e in
     and-both (not (eqb topology 4) || within 1 maxNodes first && within 1 maxNodes second) (within 2 maxNodes (nodesOf topology first second)) (y .1 .0) .1

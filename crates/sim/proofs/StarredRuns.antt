@@ -39,7 +39,7 @@ use Rattle.sim.specs.Round.{recorded, recordAll, prepareRound, takeTurn,
 use Rattle.sim.specs.Run.{Given, Ended, begin, runRound, complete, endAfter, roundsFrom, run}
 use Rattle.sim.specs.StarredRuns.{StarRun, idleConfig, half, StarredRuns}
 use Rattle.sim.proofs.Ends.{from-limit, from-end}
-use Rattle.sim.proofs.ExactRounds.{ran}
+use Rattle.sim.proofs.Admitted.{ran-so}
 
 -- ---- the star
 module _ (seed interval limit : ℕ) (h : 1 ≤ interval) (l : 1 ≤ limit) where
@@ -94,7 +94,7 @@ no-round-of : (o : Option ℕ) (g : Given) (logs records snapshots : List ℕ) (
     → outcomeOf o g logs records snapshots .answer ≡ Ran s → (s .rounds ≡ 0) × (s .ended ≡ 4)
 no-round-of o g logs records snapshots s z e =
     let same : s ≡ summaryOf g (record { running = begin g snapshots; ended = 4 }) =
-    sym (ran o g logs records snapshots s e .1) ∙ ap (summaryOf g) (no-round g snapshots z) in
+    sym (ran-so o g logs records snapshots s e .1) ∙ ap (summaryOf g) (no-round g snapshots z) in
     (ap (λ (x : Summary). x .rounds) same, ap (λ (x : Summary). x .ended) same)
 
 limit-0 : (q : Asked) (c : Config) (logs records snapshots : List ℕ) (s : Summary) → c .«max_slots» ≡ 0

@@ -6,6 +6,8 @@ pub mod Entries
 pub mod View
 pub mod Going
 pub mod ExactRounds
+pub mod NothingLost
+pub mod Bounds
 pub mod Ratio
 pub mod Answers
 pub mod Printed
