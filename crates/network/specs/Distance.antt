@@ -1,6 +1,5 @@
 -- Distance, eccentricity and diameter of the graph whose n nodes have the given rows. A distance is a number of links, or none
 -- where no path joins the two nodes.
--- Assumes nothing.
 use mathlib.Core.Path.{_≡_}
 use mathlib.Core.Bool.{cond, _&&_, _||_}
 use mathlib.Core.List.{List, [], _∷_}

@@ -1,6 +1,5 @@
 -- Rows, links and paths. A set of nodes is a number: node j is in it when its binary digit j is 1. A node's row is the set of its
 -- neighbours, and a graph is the list of its rows.
--- Assumes nothing.
 use mathlib.Core.Path.{_≡_}
 use mathlib.Core.Bool.{Bool, true, false, not, cond, _&&_, _||_, Bool·beq}
 use mathlib.Core.List.{List, _++_}
@@ -21,11 +20,12 @@ unfoldable pub setOf : ℕ → (ℕ → Bool) → ℕ
 setOf zero f = 0
 setOf (suc n) f = setOf n f + cond (f n) (2 ^ n) 0
 
--- Some number below n has f; every one has it.
+-- Some number below n has f.
 unfoldable pub any : ℕ → (ℕ → Bool) → Bool
 any zero f = false
 any (suc n) f = any n f || f n
 
+-- Every number below n has f.
 unfoldable pub all : ℕ → (ℕ → Bool) → Bool
 all zero f = true
 all (suc n) f = all n f && f n

@@ -1,5 +1,4 @@
 -- The rows of each topology, by its rule, and what the builders answer.
--- Assumes nothing.
 use mathlib.Core.Bool.{Bool, not, cond, _&&_, _||_}
 use mathlib.Core.List.{List, [], _∷_, _++_}
 use mathlib.Core.Option.{Option, none, some}
@@ -18,7 +17,7 @@ use Rattle.network.specs.declared.topology.Built.the-variants.{Nodes, Re
 abbrev pub beside : ℕ → ℕ → Bool
 beside x y = eqb (x + 1) y || eqb (y + 1) x
 
--- The first and the last of n nodes.
+-- i is the first and j the last of n nodes.
 abbrev pub ends : ℕ → ℕ → ℕ → Bool
 ends n i j = eqb i 0 && eqb (j + 1) n
 

@@ -31,7 +31,7 @@ pub record State : Type 0 where
 abbrev pub empty : State
 empty = record { log = []; pending = λ t. none; last = LastAccepted.None }
 
--- ---- sets of up to 64 nodes
+-- ---- sets of nodes, as words of 64 bits
 
 -- the union, of the lowest k bits
 unfoldable pub unionIn : ℕ → ℕ → ℕ → ℕ

@@ -24,7 +24,7 @@ abbrev pub counted : Bool → ℕ → ℕ
 counted true c = c + 1
 counted false c = c
 
--- the new proposal pending with its own vote
+-- the new proposal pending with the initiator's vote
 abbrev pub propose : Bool → ℕ → ℕ → State → State
 propose true i c s = hold c (vote i) (Data.Of (record { 0 = c })) s
 propose false i c s = s

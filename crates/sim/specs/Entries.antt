@@ -58,22 +58,23 @@ summaryOf g e =
       snapshots = r .standing .shots .count;
     }
 
--- Logs: terms of node i from byte 64i, its count at 2,048 + i; every other byte stays.
+-- the terms of a log, in order
 abbrev pub terms : List Entry → List ℕ
 terms log = map (λ (e : Entry). e .term) log
 
+-- Logs: terms of node i from byte 64i, its count at 2,048 + i; every other byte stays.
 unfoldable pub logsWith : List ℕ → List State → ℕ → List ℕ
 logsWith old states zero = old
 logsWith old states (suc i) =
     let log : List ℕ = terms (stateOf states i .log) in
     sets (sets (logsWith old states i) (64 * i) log) (2048 + i) (length log ∷ [])
 
--- Records: id, start, end, one after the other; every other number stays.
+-- records: id, start, end, one after the other
 unfoldable pub numbersOf : List Record → List ℕ
 numbersOf [] = []
 numbersOf (r ∷ rs) = r .id ∷ r .start ∷ r .end ∷ numbersOf rs
 
--- what a run that is not refused gives
+-- What a run that is not refused gives. Places of the record buffer behind the records stay.
 unfoldable pub ranWith : Given → List ℕ → List ℕ → List ℕ → Outcome
 ranWith g logs records snapshots =
     let e : Ended = run g snapshots in

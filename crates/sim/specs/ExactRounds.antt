@@ -19,7 +19,7 @@ use Rattle.sim.specs.Round.{stateOf, initiatorOf}
 use Rattle.sim.specs.Run.{Given, Past, Ended, lengthOf, run}
 use Rattle.sim.specs.Entries.{Outcome, terms, givenOf, runOfRows, runOfTopology}
 
--- ---- the rounds on paper
+-- ---- the sums that the rounds come to
 
 -- f 0 + f 1 + .. + f (n - 1)
 unfoldable pub sum : ℕ → (ℕ → ℕ) → ℕ

@@ -25,15 +25,15 @@ unfoldable pub recorded : ℕ → List Record → Bool
 recorded t [] = false
 recorded t (r ∷ rs) = eqb t (r .id) || recorded t rs
 
--- record the terms not recorded before, each with the slot that it was proposed in and this end
+-- record the terms not recorded before, each with the first slot of the round that proposed it, and this end
 unfoldable pub recordAll : List ℕ → ℕ → List ℕ → List Record → List Record
 recordAll starts end [] records = records
 recordAll starts end (t ∷ ts) records =
     recordAll starts end ts
     (cond (recorded t records) records (records ++ (record { id = t; start = getD starts t 0; end = end } ∷ [])))
 
--- What the rounds carry besides the flood: the nodes' Paxos states, the counter (how many proposals were made), the slot that each was
--- made in, the records, the piggyback for the next packet, and the counts of NACKs and piggybacks.
+-- What the rounds carry besides the flood: the nodes' Paxos states, the counter (how many proposals were made), the first slot of
+-- the round that made each, the records, the piggyback for the next packet, and the counts of NACKs and piggybacks.
 pub record Shared : Type 0 where
   pub states : List State
   pub counter : ℕ

@@ -92,7 +92,7 @@ pub record Ended : Type 0 where
   pub ended : ℕ
 
 -- A round starts only below the slot limit; at it the run ends by 4. The rounds from k on, at most `most` of them: end 3 comes at index
--- P + 1,001 at the latest.
+-- P + 1,001 at the latest, so the first line is never reached from 0.
 unfoldable pub roundsFrom : Given → ℕ → ℕ → Running → Ended
 roundsFrom g zero k r = record { running = r; ended = 3 }
 roundsFrom g (suc most) k r =

@@ -8,7 +8,7 @@ use lib.ListN.{length, getD}
 use Rattle.text.specs.Ascii.{ascii}
 use Rattle.text.specs.declared.listing.Summary.{Summary}
 
--- the decimal digits of n, at most as many as `most`
+-- the last `most` decimal digits of n, all of them if there are no more
 unfoldable pub spelledIn : ℕ → ℕ → List ℕ
 spelledIn zero n = []
 spelledIn (suc most) n = elim (ltb n 10) [ true ↦ (48 + n) ∷ [] | false ↦ spelledIn most (n / 10) ++ ((48 + n % 10) ∷ []) ]
