@@ -1,6 +1,7 @@
-// Runs document 01's edges that no theorem shows: each refusal at its boundary, buffers one short,
-// exactly full and longer than needed, and lines that are no configuration. Places of a buffer hold a
-// mark beforehand; how many still hold it is printed as kept.
+// Runs document 01's edges that no theorem shows and no line of `replay` can ask for: buffers one
+// short, exactly full and longer than needed, rows, diameters and ratios at their boundaries, and
+// inputs that are no line. Places of a buffer hold a mark beforehand; how many still hold it is
+// printed as kept.
 mod marks;
 mod runs;
 
@@ -32,24 +33,23 @@ fn show_built(name: &[u8], topology: u64, first: u64, second: u64, out: &mut [u3
     put_end();
 }
 
-fn built() {
+// Refused before the places are looked at.
+fn built_without_places() {
     let mut a = [77u32; 0];
     let mut b = [77u32; 0];
     let mut c = [77u32; 0];
+    show_built(b"rows of topology 7, no node, no place:", 7, 0, 0, &mut a);
+    show_built(b"rows of 33 nodes, no place:", 2, 33, 1, &mut b);
+    let name = b"rows of line 5, second number 1, no place:";
+    show_built(name, 2, 5, 1, &mut c);
+}
+
+fn built() {
     let mut d = [77u32; 4];
     let mut e = [77u32; 5];
     let mut f = [77u32; 31];
     let mut g = [77u32; 32];
     let mut h = [77u32; 40];
-    show_built(b"rows of topology 7, no node, no place:", 7, 0, 0, &mut a);
-    show_built(b"rows of 33 nodes, no place:", 2, 33, 1, &mut b);
-    show_built(
-        b"rows of line 5, second number 1, no place:",
-        2,
-        5,
-        1,
-        &mut c,
-    );
     show_built(b"rows of line 5 in 4 places:", 2, 5, 0, &mut d);
     show_built(b"rows of line 5 in 5 places:", 2, 5, 0, &mut e);
     show_built(b"rows of line 32 in 31 places:", 2, 32, 0, &mut f);
@@ -75,6 +75,9 @@ fn diameters() {
     show_diameter(b"diameter of no link:", &[0, 0, 0], 3);
     show_diameter(b"diameter of one node:", &[0], 1);
     show_diameter(b"diameter of 33 nodes with an own bit:", &[1], 33);
+}
+
+fn unchecked_diameters() {
     show_diameter(b"diameter, a row too few:", &[2, 5], 3);
     show_diameter(b"diameter, bit at n:", &[2, 13, 2], 3);
     show_diameter(b"diameter, own bit:", &[2, 7, 2], 3);
@@ -107,35 +110,28 @@ fn ratios() {
     show_ratio(b"ratio 0 of 1 is 0:", 0, 1, 0.0);
     show_ratio(b"ratio 1 of 2 is 0.5:", 1, 2, 0.5);
     show_ratio(b"ratio 1 of 2 is 0.25:", 1, 2, 0.25);
-    show_ratio(
-        b"ratio 1 of 3 is 0.3333333333333333:",
-        1,
-        3,
-        0.3333333333333333,
-    );
-    show_ratio(
-        b"ratio 2 of 3 is 0.6666666666666666:",
-        2,
-        3,
-        0.6666666666666666,
-    );
+}
+
+fn rounded_ratios() {
+    let third = b"ratio 1 of 3 is 0.3333333333333333:";
+    show_ratio(third, 1, 3, 0.3333333333333333);
+    let two_thirds = b"ratio 2 of 3 is 0.6666666666666666:";
+    show_ratio(two_thirds, 2, 3, 0.6666666666666666);
     show_ratio(b"ratio 3 of 2 is 1.5:", 3, 2, 1.5);
-    show_ratio(
-        b"ratio 2^53 of 2^53 is 1:",
-        9007199254740992,
-        9007199254740992,
-        1.0,
-    );
-    show_ratio(
-        b"ratio 2^53 of 1 is 2^53:",
-        9007199254740992,
-        1,
-        9007199254740992.0,
-    );
-    show_ratio(b"ratio 2^53 of 0:", 9007199254740992, 0, 0.0);
-    show_ratio(b"ratio 2^53 + 1 of 1:", 9007199254740993, 1, 0.0);
-    show_ratio(b"ratio 2^53 + 1 of 0:", 9007199254740993, 0, 0.0);
-    show_ratio(b"ratio 1 of 2^53 + 1:", 1, 9007199254740993, 0.0);
+}
+
+fn greatest_ratios() {
+    let n = 9007199254740992;
+    show_ratio(b"ratio 2^53 of 2^53 is 1:", n, n, 1.0);
+    show_ratio(b"ratio 2^53 of 1 is 2^53:", n, 1, 9007199254740992.0);
+    show_ratio(b"ratio 2^53 of 0:", n, 0, 0.0);
+}
+
+fn refused_ratios() {
+    let n = 9007199254740993;
+    show_ratio(b"ratio 2^53 + 1 of 1:", n, 1, 0.0);
+    show_ratio(b"ratio 2^53 + 1 of 0:", n, 0, 0.0);
+    show_ratio(b"ratio 1 of 2^53 + 1:", 1, n, 0.0);
     show_ratio(b"ratio 0 of 2^64 - 1:", 0, 18446744073709551615, 0.0);
 }
 
@@ -151,40 +147,18 @@ fn show_line(name: &[u8], line: &[u8]) {
 fn lines() {
     show_line(b"printed run:", b"2 3 0 1 - 0000000000000000 7 1 2 1000\n");
     show_line(b"no newline:", b"2 3 0 1 - 0000000000000000 7 1 2 1000");
-    show_line(
-        b"text behind the line:",
-        b"2 3 0 1 - 0000000000000000 7 1 2 1000\n\x00 7 a",
-    );
+    let behind = b"2 3 0 1 - 0000000000000000 7 1 2 1000\n\x00 7 a";
+    show_line(b"text behind the line:", behind);
     show_line(b"empty:", b"");
-    show_line(
-        b"newline first:",
-        b"\n2 3 0 1 - 0000000000000000 7 1 2 1000\n",
-    );
-    show_line(
-        b"carriage return:",
-        b"2 3 0 1 - 0000000000000000 7 1 2 1000\r\n",
-    );
-    show_line(
-        b"zero byte:",
-        b"2 3 0 1 - 0000000000000000 7 1 2 1000\x00\n",
-    );
-    show_line(
-        b"text in the line:",
-        b"2 3 0 1 - 0000000000000000 7 1 2 1000 x\n",
-    );
-    show_line(b"a field too few:", b"2 3 0 1 - 0000000000000000 7 1 2\n");
-    show_line(
-        b"seed 2^64:",
-        b"2 3 0 1 - 0000000000000000 18446744073709551616 1 2 1000\n",
-    );
-    show_line(
-        b"topology 9, unreadable:",
-        b"9 0 9 0 - 3ff0000000000000 7 65 0 x\n",
-    );
-    show_line(
-        b"topology 9, readable:",
-        b"9 0 9 0 - 3ff0000000000000 7 65 0 1\n",
-    );
+    let second = b"\n2 3 0 1 - 0000000000000000 7 1 2 1000\n";
+    show_line(b"newline first:", second);
+}
+
+fn odd_bytes() {
+    let cr = b"2 3 0 1 - 0000000000000000 7 1 2 1000\r\n";
+    show_line(b"carriage return:", cr);
+    let zero = b"2 3 0 1 - 0000000000000000 7 1 2 1000\x00\n";
+    show_line(b"zero byte:", zero);
 }
 
 fn long_lines() {
@@ -196,37 +170,17 @@ fn long_lines() {
     show_line(b"5,000 spaces:", &spaces);
 }
 
-// Loss rates by their bits.
-fn rate_lines() {
-    show_line(b"rate 1:", b"2 3 0 1 - 3ff0000000000000 7 1 2 1000\n");
-    show_line(
-        b"rate below 1:",
-        b"2 3 0 1 - 3fefffffffffffff 7 1 1000 30\n",
-    );
-    show_line(b"least rate:", b"2 3 0 1 - 0000000000000001 7 1 1000 30\n");
-    show_line(b"minus zero:", b"2 3 0 1 - 8000000000000000 7 1 1000 30\n");
-    show_line(
-        b"greatest negative rate:",
-        b"2 3 0 1 - 8000000000000001 7 1 2 1000\n",
-    );
-    show_line(b"infinity:", b"2 3 0 1 - 7ff0000000000000 7 1 2 1000\n");
-    show_line(
-        b"minus infinity:",
-        b"2 3 0 1 - fff0000000000000 7 1 2 1000\n",
-    );
-    show_line(b"no number:", b"2 3 0 1 - 7ff8000000000000 7 1 2 1000\n");
-    show_line(
-        b"other no number:",
-        b"2 3 0 1 - fff0000000000001 7 1 2 1000\n",
-    );
-}
-
 fn main() {
     runs::run_all();
+    built_without_places();
     built();
     diameters();
+    unchecked_diameters();
     ratios();
+    rounded_ratios();
+    greatest_ratios();
+    refused_ratios();
     lines();
+    odd_bytes();
     long_lines();
-    rate_lines();
 }
