@@ -15,3 +15,7 @@ pub mod Reached
 pub mod Wave
 pub mod Lossless
 pub mod Due
+pub mod Lent
+pub mod Through
+pub mod Element
+pub mod Called

@@ -7,7 +7,8 @@ use native.Mathlib.Nat.{add-comm, add-zero, one-mul}
 use native.Mathlib.Omega.{arith}
 use lib.Count.{ones, ones-cat}
 use lib.Dec.{eqb}
-use lib.ListN.{getD}
+use lib.ListN.{length, getD, length-set}
+use lib.Seq.{getD-set-same, getD-set-other}
 use Rattle.network.specs.Graph.{has, setOf, count}
 use Rattle.network.proofs.Sets.{setOf-lt}
 use Rattle.network.proofs.Tables.{getD-tabulate}
@@ -16,7 +17,7 @@ use Rattle.phy.specs.declared.node.NodeState.{NodeState}
 use Rattle.phy.specs.declared.node.NodeState.the-variants.{Listen, Flood, Sleep}
 use Rattle.phy.specs.declared.packet.Packet.{Packet}
 use Rattle.phy.specs.Node.{new, holding, begunBy, deliveredTo, tick, tickIn, transition, transitionIn, total, listens, floods, sleeps, isListening, isFlooding, isSleeping}
-use Rattle.phy.specs.Slot.{at, howMany, ticked, moved}
+use Rattle.phy.specs.Slot.{at, altered, howMany, ticked, moved}
 use Rattle.phy.specs.Round.{begun, delivered}
 
 -- ---- one node
@@ -55,6 +56,18 @@ delivered-state packet v = go (isSleeping v)
     go : (b : Bool) → cond b (holding packet v) v .state ≡ v .state
     go true = refl
     go false = refl
+
+-- ---- one node of all
+
+pub altered-at : (f : Node → Node) (i : ℕ) (nodes : List Node) → i < length nodes → at (altered f i nodes) i ≡ f (at nodes i)
+altered-at f i nodes h = getD-set-same nodes i (f (at nodes i)) new h
+
+-- every other record is what it was
+pub altered-other : (f : Node → Node) (i : ℕ) (nodes : List Node) (j : ℕ) → (j ≡ i → ⊥) → at (altered f i nodes) j ≡ at nodes j
+altered-other f i nodes j h = getD-set-other nodes i j (f (at nodes i)) new h
+
+pub altered-length : (f : Node → Node) (i : ℕ) (nodes : List Node) → length (altered f i nodes) ≡ length nodes
+altered-length f i nodes = length-set nodes i (f (at nodes i))
 
 -- ---- all nodes
 

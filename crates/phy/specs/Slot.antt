@@ -3,7 +3,7 @@ use Prim.Native.Nat.{ℕ, zero, suc, _+_, _*_, _^_}
 use mathlib.Core.Bool.{Bool, true, false, cond, _&&_}
 use mathlib.Core.List.{List, [], _∷_, _++_}
 use lib.Dec.{leb}
-use lib.ListN.{length, getD}
+use lib.ListN.{length, getD, set}
 use lib.Seq.{sets}
 use Rattle.network.specs.Table.{tabulate}
 use Rattle.network.specs.Graph.{has, linked, count}
@@ -23,6 +23,10 @@ pub record Setup : Type 0 where
 -- node j of a list
 abbrev pub at : List Node → ℕ → Node
 at nodes j = getD nodes j new
+
+-- the list with the record of node i altered, and no other
+abbrev pub altered : (Node → Node) → ℕ → List Node → List Node
+altered f i nodes = set nodes i (f (at nodes i))
 
 -- how many of the first n nodes are so
 abbrev pub howMany : (Node → Bool) → List Node → ℕ → ℕ

@@ -3,9 +3,11 @@
 use super::packet::Packet;
 use super::packet::same_packet;
 ghost use mathlib.Core.Path.{_≡_};
+ghost use mathlib.Core.Bool.{cond};
 ghost use Prim.Native.Nat.{_<_, _+_, _^_};
 ghost use Rattle.phy.specs.Node as Spec;
 ghost use Rattle.phy.specs.Packets as Packets;
+ghost use Rattle.phy.specs.declared.node.NodeState.the-variants.{Flood};
 
 // What a radio does in a slot.
 pub enum NodeState {
@@ -79,6 +81,23 @@ pub fn tick(node: Node) -> Node
     next
 }
 
+impl Node {
+    // The node behind the reference as a round begins.
+    pub fn reset_round(&mut self)
+        ensures { λ _. ⌜ now (self .exit) ≡ Spec.resetRound (now (self .entry)) ⌝ }
+    {
+        *self = reset_round(*self);
+    }
+
+    // The node behind the reference after one slot in its state.
+    pub fn tick(&mut self)
+        requires { ⌜ Spec.total (now self) + 1 < 2 ^ 64 ⌝ }
+        ensures { λ _. ⌜ now (self .exit) ≡ Spec.tick (now (self .entry)) ⌝ }
+    {
+        *self = tick(*self);
+    }
+}
+
 // The node with another state and other repeats left.
 fn turned(node: Node, state: NodeState, flood_remaining: u32) -> Node
     ensures { λ r. ⌜ r ≡ Spec.turned state «flood_remaining» node ⌝ }
@@ -119,15 +138,34 @@ pub fn transition(node: Node, heard: bool, repeats: u32) -> Node
     }
 }
 
-// The node as a round begins: the initiator floods a packet, every other node listens.
-pub fn begun(node: Node, first: bool, packet: Packet, repeats: u32) -> Node
-    ensures { λ r. ⌜ r ≡ Spec.begunBy first packet repeats node ⌝ }
+// The initiator floods a packet, every other node is as it was.
+fn started(node: Node, first: bool, packet: Packet, repeats: u32) -> Node
+    ensures { λ r. ⌜ r ≡ cond first (Spec.holding packet (Spec.turned Flood repeats node)) node ⌝ }
 {
     if first {
         holding(turned(node, NodeState::Flood, repeats), packet)
     } else {
-        reset_round(node)
+        node
     }
+}
+
+// The node as a round begins: the initiator floods a packet, every other node listens.
+pub fn begun(node: Node, first: bool, packet: Packet, repeats: u32) -> Node
+    ensures { λ r. ⌜ r ≡ Spec.begunBy first packet repeats node ⌝ }
+{
+    let mut next = node;
+    next.reset_round();
+    started(next, first, packet, repeats)
+}
+
+// The node after one slot: it counts its state, and then follows what it heard.
+pub fn stepped(node: Node, heard: bool, repeats: u32) -> Node
+    requires { ⌜ Spec.total node + 1 < 2 ^ 64 ⌝ }
+    ensures { λ r. ⌜ r ≡ Spec.transition repeats heard (Spec.tick node) ⌝ }
+{
+    let mut next = node;
+    next.tick();
+    transition(next, heard, repeats)
 }
 
 // The node after the round: it has the packet if it sleeps.

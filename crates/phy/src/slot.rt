@@ -2,8 +2,7 @@
 use super::node::Node;
 use super::node::is_flooding;
 use super::node::is_listening;
-use super::node::tick;
-use super::node::transition;
+use super::node::stepped;
 use super::snapshot::Shown;
 use super::snapshot::Taken;
 use super::snapshot::take_snapshots;
@@ -135,7 +134,7 @@ fn advance(radios: Radios, n: usize, repeats: u32, reached: u64) -> Radios
     let mut flooding = 0u64;
     for i in 0..n {
         let v = at[i];
-        let w = transition(tick(v), (reached >> i) % 2 == 1, repeats);
+        let w = stepped(v, (reached >> i) % 2 == 1, repeats);
         at[i] = w;
         listening = put(listening, NodeId(i), is_listening(w));
         flooding = put(flooding, NodeId(i), is_flooding(w));

@@ -3,7 +3,7 @@ use mathlib.Core.Path.{subst, _≡_, refl, sym, ap, _∙_}
 use native.Mathlib.Omega.{arith}
 use lib.ListN.{getD}
 use Rattle.phy.specs.declared.node.Node.{Node}
-use Rattle.phy.specs.Node.{total, transition, new, isListening, isFlooding}
+use Rattle.phy.specs.Node.{total, new, isListening, isFlooding}
 use Rattle.network.specs.Graph.{has, setOf}
 use Rattle.network.proofs.Tables.{Changed, changed-none, changed-more}
 use Rattle.phy.proofs.Advance.{onward, advanced, set-now}
@@ -29,16 +29,13 @@ mul-v c = omega arith
 array-copy-out-v : tie.Need-array-copy-out-v Inv-loop μ-loop
 array-copy-out-v c = omega arith
 
-tick-requires : tie.Need-tick-requires Inv-loop μ-loop
-tick-requires c κs =
+shr-stepped : tie.Need-shr-stepped Inv-loop μ-loop
+shr-stepped c = omega arith
+
+stepped-requires : tie.Need-stepped-requires Inv-loop μ-loop
+stepped-requires c κs =
     let n = c .before .before in
     subst (λ (v : Node). total v + 1 < 2 ^ 64) (sym (n .loop .inv .0 .left (n .loop .i) (omega arith))) (n .before .before .pre .2 (n .loop .i) (omega arith))
-
-shr-transition : tie.Need-shr-transition Inv-loop μ-loop
-shr-transition c = omega arith
-
-transition-requires : tie.Need-transition-requires Inv-loop μ-loop
-transition-requires c κs = tt
 
 mul-at : tie.Need-mul-at Inv-loop μ-loop
 mul-at c = omega arith
@@ -67,12 +64,12 @@ loop-less c = omega arith
 loop-again : tie.Need-loop-again Inv-loop μ-loop
 unfolding has
 loop-again c =
-    let n = c .before .before .before .before .before .before .before .before in
+    let n = c .before .before .before .before .before .before .before in
     let a = n .before .before .args in
     let i = n .loop .i in
     let old = n .loop .inv .0 in
-    let moved-on : c .before .before .before .before .transition .result ≡ onward (a .repeats) (a .reached) i (getD (n .loop .at) i new)
-    = c .before .before .before .before .transition .ensures ∙ ap (transition (a .repeats) (has (a .reached) i)) (c .before .before .before .before .before .tick .ensures) in
+    let moved-on : c .before .before .before .before .stepped .result ≡ onward (a .repeats) (a .reached) i (getD (n .loop .at) i new)
+    = c .before .before .before .before .stepped .ensures in
     let from-old = moved-on ∙ ap (onward (a .repeats) (a .reached) i) (old .left i (omega arith)) in (
       changed-more _ old (omega arith) (omega arith) moved-on,
       c .before .before .put .ensures _ (n .loop .inv .1) (c .before .before .before .is-listening .ensures ∙ ap isListening from-old),
@@ -101,9 +98,8 @@ advance-spec =
     loop-holds
     mul-v
     array-copy-out-v
-    tick-requires
-    shr-transition
-    transition-requires
+    shr-stepped
+    stepped-requires
     mul-at
     array-set-from-at
     is-listening-requires
