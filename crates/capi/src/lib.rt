@@ -1,0 +1,174 @@
+// The entries for programs in C. Each takes numbers and slices alone, where a slice is a pointer and a length in C, and
+// returns 0 or the number of the refusal, which leaves every slice as it was. `include/ctsim.h` declares them.
+mod filing;
+
+use filing::config_of;
+use filing::file_answer;
+use network::distance::Measured;
+use network::distance::diameter;
+use network::draws::draws;
+use network::topology::Built;
+use network::topology::rows;
+use sim::entries::run_rows;
+use sim::entries::run_topology;
+use sim::metrics::Ratio;
+use sim::ratio::ratio;
+ghost use Prim.Native.Nat.{ℕ};
+ghost use mathlib.Core.Path.{_≡_};
+ghost use mathlib.Core.List.{List};
+ghost use lib.Ieee.{Float};
+ghost use lib.ListN.{length};
+ghost use Rattle.network.specs.Draws.{draw};
+ghost use Rattle.network.specs.Table.{tabulate};
+ghost use Rattle.capi.specs.Capi.{filedRows, filedDiameter, filedRatio, configFrom, filed, filedTopology, filedRun};
+
+// Refusal 13, which only these entries have: a slice for results is too short.
+const TOO_SHORT: u64 = 13;
+
+// No refusal: the divisor is 0, and there is no ratio.
+const NO_RATIO: u64 = 14;
+
+// Fills a slice with the draws of a seed, from draw 0 on. Never refused.
+#[no_mangle]
+pub extern "C" fn ctsim_draws(seed: u64, out: &mut [u64]) -> u64
+    ensures { λ r. ⌜ _≡_ {A = ℕ × List ℕ} (r, now (out .exit)) (0, tabulate (length (now (out .entry))) (draw seed)) ⌝ }
+{
+    draws(seed, out);
+    0
+}
+
+// The rows of a topology into the first places of `out`, and the number of nodes into the first of `nodes`.
+#[no_mangle]
+pub extern "C" fn ctsim_rows(
+    topology: u64,
+    first: u64,
+    second: u64,
+    out: &mut [u32],
+    nodes: &mut [u64],
+) -> u64
+    ensures { λ r. ⌜ _≡_ {A = ℕ × List ℕ × List ℕ} (r, now (out .exit), now (nodes .exit)) (filedRows topology first second (now (out .entry)) (now (nodes .entry))) ⌝ }
+{
+    if nodes.len() < 1 {
+        return TOO_SHORT;
+    }
+    let built = rows(topology, first, second, out);
+    match built {
+        Built::Refused(k) => k,
+        Built::Nodes(n) => {
+            nodes[0] = n as u64;
+            0
+        }
+    }
+}
+
+// The diameter of n nodes with these rows into the first place of `links`.
+#[no_mangle]
+pub extern "C" fn ctsim_diameter(rows: &[u32], n: u64, links: &mut [u64]) -> u64
+    ensures { λ r. ⌜ _≡_ {A = ℕ × List ℕ} (r, now (links .exit)) (filedDiameter (now (rows .entry)) n (now (links .entry))) ⌝ }
+{
+    if links.len() < 1 {
+        return TOO_SHORT;
+    }
+    let measured = diameter(rows, n);
+    match measured {
+        Measured::Refused(k) => k,
+        Measured::Links(d) => {
+            links[0] = d as u64;
+            0
+        }
+    }
+}
+
+// The ratio of two counts into the first place of `out`.
+#[no_mangle]
+pub extern "C" fn ctsim_ratio(part: u64, whole: u64, out: &mut [f64]) -> u64
+    ensures { λ r. ⌜ _≡_ {A = ℕ × List Float} (r, now (out .exit)) (filedRatio part whole (now (out .entry))) ⌝ }
+{
+    if out.len() < 1 {
+        return TOO_SHORT;
+    }
+    let answer = ratio(part, whole);
+    match answer {
+        Ratio::None => NO_RATIO,
+        Ratio::Refused(k) => k,
+        Ratio::Of(x) => {
+            out[0] = x;
+            0
+        }
+    }
+}
+
+// A run of the topology with that number. `given` says whether there are round slots: 0 no, any other yes.
+#[no_mangle]
+pub extern "C" fn ctsim_run_topology(
+    topology: u64,
+    first: u64,
+    second: u64,
+    repeats: u64,
+    given: u64,
+    round_slots: u64,
+    loss: f64,
+    seed: u64,
+    proposals: u64,
+    interval: u64,
+    limit: u64,
+    summary: &mut [u64],
+    logs: &mut [u8],
+    records: &mut [u64],
+    snapshots: &mut [u64],
+) -> u64
+    ensures { λ r. ⌜ filed r (now (summary .exit)) (now (logs .exit)) (now (records .exit)) (now (snapshots .exit)) ≡ filedTopology topology first second (configFrom repeats given «round_slots» loss seed proposals interval limit) (now (summary .entry)) (now (logs .entry)) (now (records .entry)) (now (snapshots .entry)) ⌝ }
+{
+    if summary.len() < 16 {
+        return TOO_SHORT;
+    }
+    let config = config_of(
+        repeats,
+        given,
+        round_slots,
+        loss,
+        seed,
+        proposals,
+        interval,
+        limit,
+    );
+    let answer = run_topology(topology, first, second, config, logs, records, snapshots);
+    file_answer(answer, summary)
+}
+
+// A run of n nodes with these rows.
+#[no_mangle]
+pub extern "C" fn ctsim_run_rows(
+    rows: &[u32],
+    n: u64,
+    repeats: u64,
+    given: u64,
+    round_slots: u64,
+    loss: f64,
+    seed: u64,
+    proposals: u64,
+    interval: u64,
+    limit: u64,
+    summary: &mut [u64],
+    logs: &mut [u8],
+    records: &mut [u64],
+    snapshots: &mut [u64],
+) -> u64
+    ensures { λ r. ⌜ filed r (now (summary .exit)) (now (logs .exit)) (now (records .exit)) (now (snapshots .exit)) ≡ filedRun (now (rows .entry)) n (configFrom repeats given «round_slots» loss seed proposals interval limit) (now (summary .entry)) (now (logs .entry)) (now (records .entry)) (now (snapshots .entry)) ⌝ }
+{
+    if summary.len() < 16 {
+        return TOO_SHORT;
+    }
+    let config = config_of(
+        repeats,
+        given,
+        round_slots,
+        loss,
+        seed,
+        proposals,
+        interval,
+        limit,
+    );
+    let answer = run_rows(rows, n, config, logs, records, snapshots);
+    file_answer(answer, summary)
+}

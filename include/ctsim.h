@@ -1,0 +1,175 @@
+/*
+ * ctsim: radios that flood one packet by constructive interference and agree on a log of proposals
+ * by a pipelined Paxos. Six entries: draws, rows, diameter, ratio, and two runs.
+ *
+ * Build the library with `rt staticlib capi` and link target/staticlib/libcapi.a. It is for x86-64
+ * Linux. It keeps nothing between calls, so that threads may call it at the same time. A run takes
+ * about 135,000 bytes of the caller's stack.
+ *
+ * Results. Every entry returns 0 if it is done, else a number of `enum ctsim_result`. Where it
+ * returns another number than 0, it has written nothing.
+ *
+ * Slices. A slice is a pointer and the number of its places. The pointer is never NULL, also where
+ * there are no places, and the slices that an entry writes to overlap no other slice of the call.
+ * Slices may be longer than needed. Every place that an entry has no number for keeps what it held.
+ *
+ * Words. A node is a radio, numbered from 0. A slot is the unit of time: in each slot every node
+ * listens, floods (sends the round's packet) or sleeps. A round is one flood of one packet; node
+ * (round modulo nodes) starts it. A proposal is a piece of data to agree on; its term is its number,
+ * from 0. A node's log is the terms that it committed, in that order. docs/NUMBERS.md says more.
+ */
+#ifndef CTSIM_H
+#define CTSIM_H
+
+#include <stddef.h>
+#include <stdint.h>
+
+#ifdef __cplusplus
+extern "C" {
+#endif
+
+/* What an entry returns. 1 to 11 are the questions, asked in this order; the first "no" is told.
+ * 13 is asked before them. */
+enum ctsim_result {
+    CTSIM_DONE = 0,
+    CTSIM_REFUSED_TOPOLOGY = 1,    /* the topology is not 1 to 6 */
+    CTSIM_REFUSED_NODES = 2,       /* not 2 to 32 nodes; for a grid rows, columns or product */
+    CTSIM_REFUSED_SECOND = 3,      /* second is above 32 for a tree, or not 0 for 1, 2, 3, 5 */
+    CTSIM_REFUSED_ROWS = 4,        /* fewer rows than nodes, or rows that are no graph */
+    CTSIM_REFUSED_REPEATS = 5,     /* the repeats are not 1 to 64 */
+    CTSIM_REFUSED_ROUND_SLOTS = 6, /* the round slots are given and above 4,096 */
+    CTSIM_REFUSED_LOSS = 7,        /* the loss rate is below 0, 1 or more, or no number */
+    CTSIM_REFUSED_PROPOSALS = 8,   /* more than 64 proposals */
+    CTSIM_REFUSED_INTERVAL = 9,    /* the snapshot interval is 0 */
+    CTSIM_REFUSED_BUFFERS = 10,    /* logs, records or, for ctsim_rows, rows are too short */
+    CTSIM_REFUSED_RATIO = 11,      /* a count of the ratio is above 2^53 */
+    CTSIM_REFUSED_SHORT = 13,      /* the slice for the summary, or for the single result, is too short */
+    CTSIM_NO_RATIO = 14            /* no refusal: there is no ratio, as the second count is 0 */
+};
+
+enum ctsim_topology {
+    CTSIM_FULL_MESH = 1, /* every node is linked to every other */
+    CTSIM_LINE = 2,      /* node i is linked to node i + 1 */
+    CTSIM_STAR = 3,      /* node 0 is linked to all others */
+    CTSIM_GRID = 4,      /* each node is linked to those beside, above and below it */
+    CTSIM_RING = 5,      /* a line whose ends are linked, above 2 nodes */
+    CTSIM_TREE = 6       /* node i is linked to i * b + j for j in 1 to b, the branching */
+};
+
+/* How many places the slices need. */
+enum ctsim_length {
+    CTSIM_MAX_NODES = 32,
+    CTSIM_SUMMARY_LENGTH = 16,
+    CTSIM_LOGS_LENGTH = 2080,
+    CTSIM_RECORDS_LENGTH = 192
+};
+
+/* The places of a summary. */
+enum ctsim_summary {
+    CTSIM_NODES = 0,        /* nodes */
+    CTSIM_ROUNDS = 1,       /* rounds that were run */
+    CTSIM_SLOTS = 2,        /* slots over all rounds */
+    CTSIM_ENDED = 3,        /* why it ended: 1 all logs are complete; 2 all proposals are recorded and
+                               the round's number is above P + 5d, d the diameter; 3 it is above
+                               P + 1,000; 4 the slot limit is reached */
+    CTSIM_LISTEN = 4,       /* slots spent listening, added up over all nodes */
+    CTSIM_FLOOD = 5,        /* slots spent flooding, likewise */
+    CTSIM_SLEEP = 6,        /* slots spent sleeping, likewise; the three sum to nodes * slots */
+    CTSIM_ATTEMPTS = 7,     /* attempts of a flooding node at a listening neighbour */
+    CTSIM_SUCCESSES = 8,    /* attempts that were not lost */
+    CTSIM_FLOOD_ROUNDS = 9, /* rounds, once more */
+    CTSIM_FLOOD_NODES = 10, /* nodes * rounds */
+    CTSIM_COVERED = 11,     /* nodes that held the round's packet after it, over all rounds */
+    CTSIM_NACKS = 12,       /* rounds whose starting node asked for a missing term above 0 */
+    CTSIM_PIGGYBACKS = 13,  /* nodes that took part and held that term, over all rounds */
+    CTSIM_RECORDS = 14,     /* records: terms that some node has committed */
+    CTSIM_SNAPSHOTS = 15    /* snapshots that were taken, whether they fitted or not */
+};
+
+/*
+ * Writes draws 0, 1, 2 .. of a seed to all places of `out`. Draw k is made of words 2k (low) and
+ * 2k + 1 (high) of the seed's ChaCha key stream with eight rounds. Returns 0, always.
+ */
+uint64_t ctsim_draws(uint64_t seed, uint64_t *out, size_t out_length);
+
+/*
+ * Writes the rows of a topology to the first places of `rows`, and the number of nodes to nodes[0].
+ * Row i is the set of node i's neighbours: bit j stands for node j.
+ *   topology  a number of `enum ctsim_topology`
+ *   first     the number of nodes; for a grid its rows
+ *   second    0; for a grid its columns, for a tree its branching
+ *   rows      at least as many places as there are nodes
+ *   nodes     at least 1 place
+ * Returns 0, 1, 2, 3, 10 or 13.
+ */
+uint64_t ctsim_rows(uint64_t topology, uint64_t first, uint64_t second,
+                    uint32_t *rows, size_t rows_length,
+                    uint64_t *nodes, size_t nodes_length);
+
+/*
+ * Writes the diameter of n nodes with these rows to links[0]: the greatest of the distances in
+ * links, where pairs that no path joins are passed over. j is in row i exactly when i is in row j;
+ * no node is in its own row, and none at or above n in any. Rows beyond the first n are not read.
+ *   links     at least 1 place
+ * Returns 0, 2, 4 or 13.
+ */
+uint64_t ctsim_diameter(const uint32_t *rows, size_t rows_length, uint64_t n,
+                        uint64_t *links, size_t links_length);
+
+/*
+ * Writes part / whole to out[0], as a double that is rounded once. For a run's links take successes
+ * and attempts, for its coverage CTSIM_COVERED and CTSIM_FLOOD_NODES.
+ *   out       at least 1 place
+ * Returns 0, 11, 13, or 14 if whole is 0, where there is no ratio.
+ */
+uint64_t ctsim_ratio(uint64_t part, uint64_t whole, double *out, size_t out_length);
+
+/*
+ * Runs a topology.
+ *   topology, first, second   as for ctsim_rows
+ *   repeats            in how many slots a node floods, 1 to 64
+ *   round_slots_given  0: a round's length limit is the greater of 3 and (d + 2) * repeats, d the
+ *                      diameter, and round_slots is not read; any other number: it is round_slots
+ *   round_slots        0 to 4,096
+ *   loss               the chance that an attempt is lost, at least 0 and below 1
+ *   seed               any number; it fixes every chance of the run
+ *   proposals          how many proposals are made, P, 0 to 64
+ *   interval           a snapshot is taken in slots 0, interval, 2 * interval .., at least 1
+ *   limit              a round starts only before this slot; any number
+ *   summary            at least 16 places: the numbers of `enum ctsim_summary`
+ *   logs               at least 2,080 places: logs[64 * i] and on has the terms of node i's log,
+ *                      logs[2048 + i] their count
+ *   records            at least 192 places: records[3 * k] and on has the term of record k, the slot
+ *                      that it started in and the slot that it ended in
+ *   snapshots          any length: snapshots[5 * k] and on has the slot of snapshot k, the length of
+ *                      the shortest log after the last round that ended, and how many nodes listen,
+ *                      flood and sleep; those that fit whole are stored
+ * Returns 0, 1, 2, 3, 5 to 10, or 13.
+ */
+uint64_t ctsim_run_topology(uint64_t topology, uint64_t first, uint64_t second,
+                            uint64_t repeats, uint64_t round_slots_given, uint64_t round_slots,
+                            double loss, uint64_t seed,
+                            uint64_t proposals, uint64_t interval, uint64_t limit,
+                            uint64_t *summary, size_t summary_length,
+                            uint8_t *logs, size_t logs_length,
+                            uint64_t *records, size_t records_length,
+                            uint64_t *snapshots, size_t snapshots_length);
+
+/*
+ * Runs n nodes with these rows. Rows are as for ctsim_diameter, all else as for ctsim_run_topology.
+ * Returns 0, 2, 4 to 10, or 13.
+ */
+uint64_t ctsim_run_rows(const uint32_t *rows, size_t rows_length, uint64_t n,
+                        uint64_t repeats, uint64_t round_slots_given, uint64_t round_slots,
+                        double loss, uint64_t seed,
+                        uint64_t proposals, uint64_t interval, uint64_t limit,
+                        uint64_t *summary, size_t summary_length,
+                        uint8_t *logs, size_t logs_length,
+                        uint64_t *records, size_t records_length,
+                        uint64_t *snapshots, size_t snapshots_length);
+
+#ifdef __cplusplus
+}
+#endif
+
+#endif

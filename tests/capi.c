@@ -1,0 +1,311 @@
+/*
+ * Calls each entry of include/ctsim.h with slices that are empty, short, exact and long, and checks
+ * the result, what was written and that every other place still holds its mark. tests/capi.sh builds
+ * and runs it.
+ */
+#include <math.h>
+#include <stdio.h>
+#include <string.h>
+
+#include "ctsim.h"
+
+#define MARK 0x4d
+#define MARK32 0x4d4d4d4dU
+#define COUNT(a) (sizeof(a) / sizeof(a)[0])
+
+static unsigned passed, failed;
+
+static void check(int ok, const char *what)
+{
+    if (ok) {
+        passed++;
+    } else {
+        failed++;
+        printf("failed: %s\n", what);
+    }
+}
+
+/* Whether all bytes from one place up to another hold the mark. */
+static int kept(const void *from, const void *to)
+{
+    const unsigned char *p = from;
+
+    for (; p < (const unsigned char *)to; p++)
+        if (*p != MARK)
+            return 0;
+    return 1;
+}
+
+/* Whether an array holds these bytes behind `before` marked ones, and marks else. */
+static int holds(const void *array, size_t size, size_t before, const void *bytes, size_t length)
+{
+    const unsigned char *p = array;
+
+    return kept(p, p + before) && memcmp(p + before, bytes, length) == 0
+           && kept(p + before + length, p + size);
+}
+
+static void test_draws(void)
+{
+    /* the first nine draws of seed 7: one block of eight, and one of the next */
+    static const uint64_t seven[] = {
+        0x2865533423d743bbU, 0x2b0159d32e9b293aU, 0xb44b70b945249531U,
+        0xba0bb7b6093e3ae3U, 0x99ec1c5f1237db88U, 0x5bff4da3cf99fe26U,
+        0x1543639f3df5b89bU, 0xd96b0f63416f0a7eU, 0x5d4d854a5c0fa8cdU,
+    };
+    uint64_t out[12];
+    size_t n;
+
+    for (n = 0; n <= COUNT(seven); n++) {
+        memset(out, MARK, sizeof out);
+        check(ctsim_draws(7, out + 1, n) == 0, "draws: result");
+        check(holds(out, sizeof out, 8, seven, 8 * n), "draws: that many, and no more");
+    }
+}
+
+/* Rows into a slice of this length, and the number of nodes into one of that. */
+static void rows_give(uint64_t topology, uint64_t first, uint64_t second, size_t length,
+                      size_t nodes_length, uint64_t result, uint64_t n, const uint32_t *want,
+                      const char *what)
+{
+    uint32_t rows[40];
+    uint64_t nodes[4];
+
+    memset(rows, MARK, sizeof rows);
+    memset(nodes, MARK, sizeof nodes);
+    check(ctsim_rows(topology, first, second, rows + 2, length, nodes + 1, nodes_length) == result, what);
+    check(holds(rows, sizeof rows, 8, want, 4 * n), what);
+    check(holds(nodes, sizeof nodes, 8, &n, result == 0 ? 8 : 0), what);
+}
+
+static void test_rows(void)
+{
+    static const uint32_t line[] = {2, 5, 10, 20, 8};
+    static const uint32_t ring[] = {18, 5, 10, 20, 9};
+    static const uint32_t grid[] = {10, 21, 34, 17, 42, 20};
+    static const uint32_t tree[] = {6, 25, 97, 2, 2, 4, 4};
+    static const uint32_t mesh[] = {6, 5, 3};
+    static const uint32_t star[] = {14, 1, 1, 1};
+
+    rows_give(CTSIM_LINE, 5, 0, 5, 1, 0, 5, line, "rows: exact");
+    rows_give(CTSIM_LINE, 5, 0, 36, 3, 0, 5, line, "rows: long");
+    rows_give(CTSIM_RING, 5, 0, 5, 1, 0, 5, ring, "rows: ring");
+    rows_give(CTSIM_GRID, 2, 3, 6, 1, 0, 6, grid, "rows: grid");
+    rows_give(CTSIM_TREE, 7, 2, 7, 1, 0, 7, tree, "rows: tree");
+    rows_give(CTSIM_FULL_MESH, 3, 0, 3, 1, 0, 3, mesh, "rows: full mesh");
+    rows_give(CTSIM_STAR, 4, 0, 4, 1, 0, 4, star, "rows: star");
+    rows_give(7, 5, 0, 36, 1, 1, 0, line, "rows: refused 1");
+    rows_give(CTSIM_LINE, 33, 0, 36, 1, 2, 0, line, "rows: refused 2");
+    rows_give(CTSIM_GRID, 1, 1, 36, 1, 2, 0, line, "rows: grid refused 2");
+    rows_give(CTSIM_LINE, 5, 1, 36, 1, 3, 0, line, "rows: refused 3");
+    rows_give(CTSIM_TREE, 5, 33, 36, 1, 3, 0, line, "rows: tree refused 3");
+    rows_give(CTSIM_LINE, 5, 0, 4, 1, 10, 0, line, "rows: one short, refused 10");
+    rows_give(CTSIM_LINE, 5, 0, 0, 1, 10, 0, line, "rows: empty, refused 10");
+    rows_give(CTSIM_LINE, 5, 0, 36, 0, 13, 0, line, "rows: no place for nodes, refused 13");
+    rows_give(7, 33, 1, 0, 0, 13, 0, line, "rows: 13 comes first");
+}
+
+/* The diameter into a slice of this length. */
+static void diameter_gives(const uint32_t *rows, size_t rows_length, uint64_t n, size_t length,
+                           uint64_t result, uint64_t want, const char *what)
+{
+    uint64_t links[4];
+
+    memset(links, MARK, sizeof links);
+    check(ctsim_diameter(rows, rows_length, n, links + 1, length) == result, what);
+    check(holds(links, sizeof links, 8, &want, result == 0 ? 8 : 0), what);
+}
+
+static void test_diameter(void)
+{
+    static const uint32_t line[] = {2, 5, 10, 20, 8};
+    static const uint32_t apart[] = {2, 1, 8, 4, MARK32};
+    static const uint32_t own[] = {1, 0};
+    static const uint32_t one_way[] = {2, 0};
+    static const uint32_t beyond[] = {6, 1};
+
+    diameter_gives(line, 5, 5, 1, 0, 4, "diameter: exact");
+    diameter_gives(line, 5, 5, 3, 0, 4, "diameter: long");
+    diameter_gives(apart, 5, 4, 1, 0, 1, "diameter: two pairs, rows beyond n are not read");
+    diameter_gives(line, 5, 1, 1, 2, 0, "diameter: refused 2");
+    diameter_gives(line, 5, 33, 1, 2, 0, "diameter: refused 2");
+    diameter_gives(line, 4, 5, 1, 4, 0, "diameter: a row short, refused 4");
+    diameter_gives(own, 2, 2, 1, 4, 0, "diameter: own bit, refused 4");
+    diameter_gives(one_way, 2, 2, 1, 4, 0, "diameter: one way, refused 4");
+    diameter_gives(beyond, 2, 2, 1, 4, 0, "diameter: no such node, refused 4");
+    diameter_gives(line, 5, 5, 0, 13, 0, "diameter: empty, refused 13");
+    diameter_gives(line, 0, 0, 0, 13, 0, "diameter: 13 comes first");
+}
+
+/* The ratio into a slice of this length. */
+static void ratio_gives(uint64_t part, uint64_t whole, size_t length, uint64_t result, double want,
+                        const char *what)
+{
+    double out[4];
+
+    memset(out, MARK, sizeof out);
+    check(ctsim_ratio(part, whole, out + 1, length) == result, what);
+    check(holds(out, sizeof out, 8, &want, result == 0 ? 8 : 0), what);
+}
+
+static void test_ratio(void)
+{
+    const uint64_t most = (uint64_t)1 << 53;
+
+    ratio_gives(1, 3, 1, 0, 1.0 / 3.0, "ratio: exact");
+    ratio_gives(1, 3, 3, 0, 1.0 / 3.0, "ratio: long");
+    ratio_gives(0, 5, 1, 0, 0.0, "ratio: of nothing");
+    ratio_gives(most, most, 1, 0, 1.0, "ratio: 2^53");
+    ratio_gives(5, 0, 1, CTSIM_NO_RATIO, 0, "ratio: none, 14");
+    ratio_gives(most + 1, 0, 1, 11, 0, "ratio: refused 11");
+    ratio_gives(1, most + 1, 1, 11, 0, "ratio: refused 11");
+    ratio_gives(1, 3, 0, 13, 0, "ratio: empty, refused 13");
+    ratio_gives(most + 1, 0, 0, 13, 0, "ratio: 13 comes first");
+}
+
+/* A run of a topology, or, where there are rows, of those; and how many places each slice has. */
+struct run {
+    const uint32_t *rows;
+    size_t rows_length;
+    uint64_t topology, first, second, repeats, given, round_slots;
+    double loss;
+    uint64_t seed, proposals, interval, limit;
+    size_t summary_length, logs_length, records_length, snapshots_length;
+};
+
+static uint64_t summary[20], records[200], snapshots[32];
+static uint8_t logs[2096];
+
+/* Marks all places, and runs into those behind the first 8 bytes of each array. */
+static uint64_t run(const struct run *r)
+{
+    memset(summary, MARK, sizeof summary);
+    memset(logs, MARK, sizeof logs);
+    memset(records, MARK, sizeof records);
+    memset(snapshots, MARK, sizeof snapshots);
+    if (r->rows != NULL)
+        return ctsim_run_rows(r->rows, r->rows_length, r->first, r->repeats, r->given, r->round_slots,
+                              r->loss, r->seed, r->proposals, r->interval, r->limit,
+                              summary + 1, r->summary_length, logs + 8, r->logs_length,
+                              records + 1, r->records_length, snapshots + 1, r->snapshots_length);
+    return ctsim_run_topology(r->topology, r->first, r->second, r->repeats, r->given, r->round_slots,
+                              r->loss, r->seed, r->proposals, r->interval, r->limit,
+                              summary + 1, r->summary_length, logs + 8, r->logs_length,
+                              records + 1, r->records_length, snapshots + 1, r->snapshots_length);
+}
+
+static void refused(struct run r, uint64_t number, const char *what)
+{
+    check(run(&r) == number, what);
+    check(kept(summary, summary + COUNT(summary)) && kept(logs, logs + COUNT(logs))
+          && kept(records, records + COUNT(records)) && kept(snapshots, snapshots + COUNT(snapshots)), what);
+}
+
+/* Document 01's printed run, whose slices are as long as r says, at least as long as needed. */
+static void printed(struct run r, const char *what)
+{
+    static const uint64_t numbers[] = {3, 2, 5, 1, 5, 6, 4, 4, 4, 2, 6, 6, 0, 0, 1, 3};
+    static const uint64_t record[] = {0, 0, 3};
+    static const uint64_t shots[] = {0, 0, 2, 1, 0, 2, 0, 0, 1, 2, 4, 0, 0, 2, 1};
+    size_t fit = r.snapshots_length / 5 < 3 ? r.snapshots_length / 5 : 3;
+    uint8_t log[COUNT(logs)];
+    size_t i;
+
+    memset(log, MARK, sizeof log);
+    for (i = 0; i < 3; i++) {
+        log[8 + 64 * i] = 0;
+        log[8 + 2048 + i] = 1;
+    }
+    check(run(&r) == 0, what);
+    check(holds(summary, sizeof summary, 8, numbers, sizeof numbers), what);
+    check(memcmp(logs, log, sizeof log) == 0, what);
+    check(holds(records, sizeof records, 8, record, sizeof record), what);
+    check(holds(snapshots, sizeof snapshots, 8, shots, 8 * 5 * fit), what);
+}
+
+/* The questions that both runs are asked. */
+static void test_questions(struct run good)
+{
+    struct run r;
+
+    r = good; r.summary_length = 15; refused(r, 13, "run: summary one short, refused 13");
+    r = good; r.summary_length = 0; r.repeats = 0; refused(r, 13, "run: 13 comes first");
+    r = good; r.repeats = 0; refused(r, 5, "run: refused 5");
+    r = good; r.repeats = 65; refused(r, 5, "run: refused 5");
+    r = good; r.given = 1; r.round_slots = 4097; refused(r, 6, "run: refused 6");
+    r = good; r.loss = 1.0; refused(r, 7, "run: loss 1, refused 7");
+    r = good; r.loss = -0.5; refused(r, 7, "run: loss below 0, refused 7");
+    r = good; r.loss = NAN; refused(r, 7, "run: loss is no number, refused 7");
+    r = good; r.proposals = 65; refused(r, 8, "run: refused 8");
+    r = good; r.interval = 0; refused(r, 9, "run: refused 9");
+    r = good; r.logs_length = 2079; refused(r, 10, "run: logs one short, refused 10");
+    r = good; r.records_length = 191; refused(r, 10, "run: records one short, refused 10");
+    r = good; r.first = 1; refused(r, 2, "run: one node, refused 2");
+    printed(good, "run: exact");
+    r = good; r.summary_length = 19; r.logs_length = 2088; r.records_length = 199;
+    r.snapshots_length = 31; printed(r, "run: long");
+    r = good; r.snapshots_length = 14; printed(r, "run: two snapshots fit");
+    r = good; r.snapshots_length = 0; printed(r, "run: no snapshot fits");
+    r = good; r.round_slots = 4097; printed(r, "run: round slots that are not given are not read");
+    r = good; r.given = UINT64_MAX; r.round_slots = 4096; printed(r, "run: round slots given");
+    r = good; r.loss = -0.0; printed(r, "run: minus zero");
+}
+
+static void test_runs(void)
+{
+    static const uint32_t line[] = {2, 5, 2};
+    static const uint32_t one_way[] = {2, 4, 2};
+    struct run good = {
+        .topology = CTSIM_LINE, .first = 3, .repeats = 1, .seed = 7, .proposals = 1,
+        .interval = 2, .limit = 1000, .summary_length = CTSIM_SUMMARY_LENGTH,
+        .logs_length = CTSIM_LOGS_LENGTH, .records_length = CTSIM_RECORDS_LENGTH,
+        .snapshots_length = 15,
+    };
+    struct run r;
+
+    test_questions(good);
+    r = good; r.topology = 0; refused(r, 1, "run of a topology: refused 1");
+    r = good; r.second = 1; refused(r, 3, "run of a topology: refused 3");
+    good.rows = line;
+    good.rows_length = 3;
+    test_questions(good);
+    r = good; r.rows_length = 2; refused(r, 4, "run of rows: a row short, refused 4");
+    r = good; r.rows = one_way; refused(r, 4, "run of rows: no graph, refused 4");
+}
+
+/* A run that loses packets: a topology and its rows come to the same, and to these numbers. */
+static void test_loss(void)
+{
+    static const uint64_t numbers[] = {16, 52, 251, 2, 2759, 849, 408, 1150, 564, 52, 832, 359, 24, 53};
+    uint64_t first[20], rows_records[200], n[1];
+    uint8_t first_logs[2096];
+    uint32_t rows[32];
+    struct run r = {
+        .topology = CTSIM_GRID, .first = 4, .second = 4, .repeats = 2, .given = 1, .round_slots = 5,
+        .loss = 0.5, .seed = 99, .proposals = 20, .interval = 2, .limit = 100000,
+        .summary_length = 16, .logs_length = 2080, .records_length = 192, .snapshots_length = 31,
+    };
+
+    check(run(&r) == 0, "loss: runs");
+    check(memcmp(summary + 1, numbers, sizeof numbers) == 0, "loss: the summary");
+    memcpy(first, summary, sizeof first);
+    memcpy(first_logs, logs, sizeof first_logs);
+    memcpy(rows_records, records, sizeof rows_records);
+    check(ctsim_rows(CTSIM_GRID, 4, 4, rows, 32, n, 1) == 0 && n[0] == 16, "loss: rows");
+    r.rows = rows; r.rows_length = 32; r.first = n[0];
+    check(run(&r) == 0, "loss: runs by rows");
+    check(memcmp(first, summary, sizeof first) == 0 && memcmp(first_logs, logs, sizeof first_logs) == 0
+          && memcmp(rows_records, records, sizeof rows_records) == 0, "loss: the same run");
+}
+
+int main(void)
+{
+    test_draws();
+    test_rows();
+    test_diameter();
+    test_ratio();
+    test_runs();
+    test_loss();
+    printf("%u passed, %u failed\n", passed, failed);
+    return failed != 0;
+}

@@ -1,0 +1,8 @@
+#!/bin/sh
+# Builds the library and the C test over it, and runs the test. It needs a C compiler, which the gate
+# does not, so `rt ci` leaves it out.
+set -eu
+cd "$(dirname "$0")/.."
+rt staticlib capi >/dev/null
+"${CC:-cc}" -std=c99 -Wall -Wextra -pedantic -O2 -Iinclude tests/capi.c target/staticlib/libcapi.a -o target/capi-test
+target/capi-test
