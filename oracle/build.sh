@@ -60,7 +60,7 @@ assemble() {
     mkdir -p "$tree"
     # Nothing below is ever committed.
     printf '*\n' >"$out/.gitignore"
-    cp -Rp "$here/Cargo.toml" "$here/ctsim" "$here/harness" "$here/rand" "$here/rand_chacha" "$tree"
+    cp -Rp "$here/Cargo.toml" "$here/compare" "$here/ctsim" "$here/harness" "$here/rand" "$here/rand_chacha" "$tree"
     for file in $files; do
         mkdir -p "$(dirname "$tree/ctsim/src/$file")"
         cp "$source/src/$file" "$tree/ctsim/src/$file"

@@ -10,7 +10,7 @@ use Rattle.network.proofs.Sets.{two}
 use Rattle.phy.specs.declared.node.Node.{Node}
 use Rattle.phy.specs.declared.packet.Packet.{Packet}
 use Rattle.phy.specs.Node.{total, isFlooding}
-use Rattle.phy.specs.Slot.{Setup, Standing, at, howMany, ticked, triesIn, slotStep}
+use Rattle.phy.specs.Slot.{Setup, Standing, at, howMany, sumOf, ticked, triesIn, slotStep}
 use Rattle.phy.specs.Round.{begun, withNodes, slots, round}
 use Rattle.phy.proofs.Nodes.{total-slot, total-begun, total-delivered}
 use Rattle.phy.proofs.Rounds.{slots-more, slots-last}
@@ -71,35 +71,32 @@ counted-round g limit initiator packet s j h =
     )
 
 -- ---- sums over the first n nodes
-unfoldable pub summed : (Node → ℕ) → List Node → ℕ → ℕ
-summed f nodes zero = 0
-summed f nodes (suc n) = summed f nodes n + f (at nodes n)
 
 -- listening, flooding and sleeping slots of all nodes
 abbrev pub allSlots : List Node → ℕ → ℕ
-allSlots nodes n = summed (λ (v : Node). v .«slots_listen») nodes n + summed (λ (v : Node). v .«slots_flood») nodes n + summed (λ (v : Node). v .«slots_sleep») nodes n
+allSlots nodes n = sumOf (λ (v : Node). v .«slots_listen») nodes n + sumOf (λ (v : Node). v .«slots_flood») nodes n + sumOf (λ (v : Node). v .«slots_sleep») nodes n
 
 -- the three sums are the sum of the nodes' totals
-pub all-total : (nodes : List Node) (n : ℕ) → allSlots nodes n ≡ summed total nodes n
-unfolding summed
+pub all-total : (nodes : List Node) (n : ℕ) → allSlots nodes n ≡ sumOf total nodes n
+unfolding sumOf
 all-total nodes zero = refl
 all-total nodes (suc n) = omega (arith, all-total nodes n)
 
 -- where each of n nodes has f equal to k
-pub summed-each : (f : Node → ℕ) (nodes : List Node) (n k : ℕ) → ((j : ℕ) → j < n → f (at nodes j) ≡ k) → summed f nodes n ≡ n * k
-unfolding summed
-summed-each f nodes zero k h = omega arith
-summed-each f nodes (suc n) k h = omega (arith, summed-each f nodes n k (λ j b. h j (omega arith)), h n (omega arith))
+pub sum-each : (f : Node → ℕ) (nodes : List Node) (n k : ℕ) → ((j : ℕ) → j < n → f (at nodes j) ≡ k) → sumOf f nodes n ≡ n * k
+unfolding sumOf
+sum-each f nodes zero k h = omega arith
+sum-each f nodes (suc n) k h = omega (arith, sum-each f nodes n k (λ j b. h j (omega arith)), h n (omega arith))
 
 -- where each of n nodes has f grown by k
-pub summed-grown : (f : Node → ℕ) (before after : List Node) (n k : ℕ) → ((j : ℕ) → j < n → f (at after j) ≡ f (at before j) + k) → summed f after n ≡ summed f before n + n * k
-unfolding summed
-summed-grown f before after zero k h = omega arith
-summed-grown f before after (suc n) k h = omega (arith, summed-grown f before after n k (λ j b. h j (omega arith)), h n (omega arith))
+pub sum-grown : (f : Node → ℕ) (before after : List Node) (n k : ℕ) → ((j : ℕ) → j < n → f (at after j) ≡ f (at before j) + k) → sumOf f after n ≡ sumOf f before n + n * k
+unfolding sumOf
+sum-grown f before after zero k h = omega arith
+sum-grown f before after (suc n) k h = omega (arith, sum-grown f before after n k (λ j b. h j (omega arith)), h n (omega arith))
 
 -- where each node has counted k slots
 pub all-slots : (nodes : List Node) (n k : ℕ) → ((j : ℕ) → j < n → total (at nodes j) ≡ k) → allSlots nodes n ≡ n * k
-all-slots nodes n k h = all-total nodes n ∙ summed-each total nodes n k h
+all-slots nodes n k h = all-total nodes n ∙ sum-each total nodes n k h
 
 -- over all nodes, listening, flooding and sleeping slots grow by nodes times slots
 pub all-slots-round : (g : Setup) (limit initiator : ℕ) (packet : Packet) (s : Standing) (k : ℕ)
@@ -108,5 +105,5 @@ pub all-slots-round : (g : Setup) (limit initiator : ℕ) (packet : Packet) (s :
 all-slots-round g limit initiator packet s k e =
     let after : Standing = round g limit initiator packet s .after in
     all-total (after .nodes) (g .nodes)
-    ∙ summed-grown total (s .nodes) (after .nodes) (g .nodes) k (λ j h. omega (arith, e, counted-round g limit initiator packet s j h))
+    ∙ sum-grown total (s .nodes) (after .nodes) (g .nodes) k (λ j h. omega (arith, e, counted-round g limit initiator packet s j h))
     ∙ ap (λ (x : ℕ). x + g .nodes * k) (sym (all-total (s .nodes) (g .nodes)))

@@ -1,6 +1,4 @@
--- A node in a local, or in a local array of nodes, lent as a `&mut` for a lifetime κ, and back: `Denote/Lend.antt`'s `lends-ref` and `ref-back` at the two places.
---     lends-node       the node h at (b, 0)  ⊢ ⇛ ∃ γ. own (the `&κ mut Node` to it) ∗ the lender's part
---     node-back        [†κ] ∗ the lender's part ∗ res γ y  ⊢ ⇛ the node y at (b, 0)
+-- A node in a local array of nodes, lent as a `&mut` for a lifetime κ, and back: `Denote/Lend.antt`'s `lends-ref` and `ref-back` at its place.
 --     LentElem         what the holder of an array keeps while element i is lent under the name γ: the lender's part, and the other elements
 --     lends-elem       the array xs at (b, 0)  ⊢ ⇛ ∃ γ. own (the `&κ mut Node` to element i) ∗ LentElem γ
 --     elem-back        [†κ] ∗ LentElem γ ∗ res γ y  ⊢ ⇛ the array `set xs i y` at (b, 0)
@@ -48,28 +46,6 @@ vals = LL.vals T.the-type T′.the-laws
 -- the reference to the node at (b, o)
 abbrev pub refAt : ℕ → ℕ → GName → Node → RefT Node
 refAt b o γ h = record { ptr = (b, o); name = γ; now = h }
-
--- ---- a node in a local
-module _ (κ : Lft) (b : ℕ) {M : Type 1} (𝓤 : URA M) (H : Heap 𝓤) (A : Atoms 𝓤) (W : Given 𝓤 H A) where
-  abbrev One : Node → Val → SProp 𝓤
-  One h v = sep 𝓤 (H .at fullShare T′.mir b 0 v) (sem 𝓤 H A (R .own h (v ∷ [])))
-
-  pub lends-node : (h : Node) (v : Val) → ent 𝓤 (One h v) (H .⇛ (ex 𝓤 (LentRef 𝓤 H A W R (named 0) κ h b 0)))
-  unfolding partOf
-  lends-node h v =
-      qed W (‵ (fat fullShare T′.mir b 0 v) ∷ ‵ (R .own h (v ∷ [])) ∷ []) ∵ updating ! $
-      use1 W (‵ (cellAt fullShare (R .mir) (v ∷ []) b 0)) (W .laws .at-raw fullShare T′.mir b 0 v) $
-      fjoin ! $ fpack ! (List Val) (λ vs. fsep (cellAt fullShare (R .mir) vs b 0) (R .own h vs)) (v ∷ []) $
-      use1 W (later (some (λ (γ : GName). ‵ (MutRef (named 0) κ R .own (refAt b 0 γ h) (vptr b 0 ∷ [])) ⊛ ‵ (flent κ (Body (mem R) b 0 γ))))) (lends-ref 𝓤 H A W R (named 0) κ h b 0) $ await ! tt $ pick ! (λ γ. split ! $
-      at-once ! $ show ! (LentRef 𝓤 H A W R (named 0) κ h b 0) γ $ done !)
-
-  pub node-back : (γ : GName) (y : Node) → ent 𝓤 (sep 𝓤 (A .dead κ) (sep 𝓤 (A .lent κ (Body (mem R) b 0 γ)) (A .res γ (R .coded .code y)))) (H .⇛ (ex 𝓤 (One y)))
-  unfolding partOf
-  node-back γ y =
-      qed W (‵ (fdead κ) ∷ ‵ (flent κ (Body (mem R) b 0 γ)) ∷ ‵ (fres γ (R .coded .code y)) ∷ []) ∵ updating ! $
-      use3 W (later (‵ (mem R .lies y b 0))) (ref-back 𝓤 H A W R κ γ y b 0) $ await ! tt $ at-once ! $
-      fpick ! (λ vs. fsplit ! $ spelt ! R (Is R) (shows 𝓤 H A R) vals (LL.tells T.the-type T′.the-laws) fullShare y vs b 0 $
-      use1 W (‵ (fat fullShare T′.mir b 0 _)) (W .laws .raw-at fullShare T′.mir b 0 _) $ show ! (One y) _ $ done !)
 
 -- ---- a node in a local array
 -- where element i lies

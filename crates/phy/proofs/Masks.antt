@@ -1,7 +1,7 @@
 -- Sets of nodes in a word. Assumes nothing.
 use Prim.Native.Nat.{ℕ, zero, suc, _+_, _*_, _/_, _%_, _^_, _≤_, _<_}
 use mathlib.Core.Path.{_≡_, refl, sym, ap, ap₂, subst, _∙_}
-use mathlib.Core.Bool.{Bool, true, false, cond, _&&_, _||_}
+use mathlib.Core.Bool.{Bool, true, false, not, cond, _&&_, _||_}
 use mathlib.Core.Logic.{_⊎_, ⊎-elim}
 use native.Mathlib.Nat.{mod-lt, not-suc-le-zero, le-of-suc-le-suc, zero-div, div-eq-of-lt, eq-or-lt-of-le, lt-div-mul-add, zero-mul, zero-add}
 use native.Mathlib.Omega.{arith}
@@ -97,3 +97,13 @@ none-left s j e k h = has-out {n = j} (below (lt-div-mul-add {b = 2 ^ j} (pow-po
   where
     below : s < s / 2 ^ j * 2 ^ j + 2 ^ j → s < 2 ^ j
     below b = subst (λ (x : ℕ). s < x) (ap (λ (q : ℕ). q * 2 ^ j + 2 ^ j) e ∙ ap (λ (x : ℕ). x + 2 ^ j) (zero-mul (2 ^ j)) ∙ zero-add (2 ^ j)) b
+
+-- the code's test that a node is not in a set
+pub off : (s j : ℕ) → eqb (s / 2 ^ j % 2) 0 ≡ not (has s j)
+unfolding has
+off s j = digit (s / 2 ^ j % 2) (mod-lt (s / 2 ^ j) (omega arith))
+  where
+    digit : (x : ℕ) → x < 2 → eqb x 0 ≡ not (eqb x 1)
+    digit zero h = refl
+    digit (suc zero) h = refl
+    digit (suc (suc x)) h = absurd (not-suc-le-zero (le-of-suc-le-suc (le-of-suc-le-suc h)))

@@ -9,7 +9,7 @@ use lib.Count.{ones, ones-cat}
 use lib.Dec.{eqb}
 use lib.ListN.{length, getD, length-set}
 use lib.Seq.{getD-set-same, getD-set-other}
-use Rattle.network.specs.Graph.{has, setOf, count}
+use Rattle.network.specs.Graph.{has, setOf, count, all}
 use Rattle.network.proofs.Sets.{setOf-lt}
 use Rattle.network.proofs.Tables.{getD-tabulate}
 use Rattle.phy.specs.declared.node.Node.{Node}
@@ -111,6 +111,14 @@ pub count-cong : (n : ℕ) (f g : ℕ → Bool) → ((j : ℕ) → j < n → f j
 unfolding count
 count-cong zero f g h = refl
 count-cong (suc n) f g h = ap₂ (λ (k : ℕ) (b : Bool). k + cond b 1 0) (count-cong n f g (λ j b. h j (omega arith))) (h n (omega arith))
+
+-- a set that was built up to n
+pub setOf-at : (f : ℕ → Bool) {i n : ℕ} → i ≡ n → setOf i f ≡ setOf n f
+setOf-at f e = ap (λ (m : ℕ). setOf m f) e
+
+-- and tests that passed up to n
+pub all-at : (f : ℕ → Bool) {i n : ℕ} → i ≡ n → all i f ≡ true → all n f ≡ true
+all-at f e p = ap (λ (m : ℕ). all m f) (sym e) ∙ p
 
 -- the bits of a set are its nodes
 pub ones-setOf : (n : ℕ) (f : ℕ → Bool) → ones (setOf n f) ≡ count n f

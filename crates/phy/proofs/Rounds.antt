@@ -2,16 +2,16 @@
 use Prim.Native.Nat.{ℕ, zero, suc, _+_, _^_, _≤_, _<_}
 use mathlib.Core.Path.{_≡_, refl, sym, ap, ap₂, _∙_}
 use mathlib.Core.Bool.{Bool, true, false, cond}
+use mathlib.Core.List.{List}
 use native.Mathlib.Omega.{arith}
 use lib.Count.{ones}
 use lib.Dec.{ltb}
 use borrow.Author.Tests.{le-ltb, lt-ltb}
 use Rattle.network.specs.Graph.{setOf, count}
-use Rattle.phy.specs.declared.slot.Radios.{Radios}
+use Rattle.phy.specs.declared.node.Node.{Node}
 use Rattle.phy.specs.Node.{isFlooding}
 use Rattle.phy.specs.Slot.{Setup, Standing, at, howMany, slotStep}
 use Rattle.phy.specs.Round.{slots}
-use Rattle.phy.specs.View.{Right, nodesOf}
 use Rattle.phy.proofs.Nodes.{ones-setOf}
 
 -- nobody is counted where the set is empty, and the other way round
@@ -24,15 +24,15 @@ setOf-none (suc n) f e = ap₂ _+_ (setOf-none n f (omega (arith, e))) (empty (f
     empty true p = absurd (omega (arith, p))
     empty false p = refl
 
-module _ (n : ℕ) (x : Radios) (right : Right n x) where
-  pub nobody : x .flooding ≡ 0 → ltb 0 (howMany isFlooding (nodesOf n x) n) ≡ false
+module _ (n : ℕ) (nodes : List Node) (flooding : ℕ) (are : flooding ≡ setOf n (λ (j : ℕ). isFlooding (at nodes j))) where
+  pub nobody : flooding ≡ 0 → ltb 0 (howMany isFlooding nodes n) ≡ false
   unfolding ones
   nobody e =
-      let none : howMany isFlooding (nodesOf n x) n ≡ 0 = sym (ones-setOf n (λ (j : ℕ). isFlooding (at (nodesOf n x) j))) ∙ ap ones (sym (right .flooding) ∙ e) in
-      le-ltb 0 (howMany isFlooding (nodesOf n x) n) (omega (arith, none))
+      let none : howMany isFlooding nodes n ≡ 0 = sym (ones-setOf n (λ (j : ℕ). isFlooding (at nodes j))) ∙ ap ones (sym are ∙ e) in
+      le-ltb 0 (howMany isFlooding nodes n) (omega (arith, none))
 
-  pub somebody : (x .flooding ≡ 0 → ⊥) → ltb 0 (howMany isFlooding (nodesOf n x) n) ≡ true
-  somebody h = lt-ltb 0 (howMany isFlooding (nodesOf n x) n) (above (howMany isFlooding (nodesOf n x) n) (λ z. h (right .flooding ∙ setOf-none n _ z)))
+  pub somebody : (flooding ≡ 0 → ⊥) → ltb 0 (howMany isFlooding nodes n) ≡ true
+  somebody h = lt-ltb 0 (howMany isFlooding nodes n) (above (howMany isFlooding nodes n) (λ z. h (are ∙ setOf-none n _ z)))
     where
       above : (k : ℕ) → (k ≡ 0 → ⊥) → 0 < k
       above zero q = absurd (q refl)

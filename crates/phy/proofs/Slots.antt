@@ -9,52 +9,53 @@ use Rattle.network.specs.Graph.{has, setOf, count}
 use Rattle.network.proofs.Sets.{has-setOf, setOf-lt}
 use Rattle.phy.specs.declared.node.Node.{Node}
 use Rattle.phy.specs.declared.node.NodeState.{NodeState}
-use Rattle.phy.specs.declared.slot.Radios.{Radios}
 use Rattle.phy.specs.Node.{listens, floods, sleeps, isListening, isFlooding, isSleeping}
 use Rattle.phy.specs.Slot.{at, howMany, ticked, snapshot, receivers, triesIn, Setup, Tries, attemptAll}
-use Rattle.phy.specs.View.{Right, nodesOf, shotOf, shownOf}
+use Rattle.phy.specs.View.{shotOf, shownOf}
 use Rattle.phy.proofs.Attempts.{receivers-cong}
 use Rattle.phy.proofs.Nodes.{state-ticked, count-cong, ones-setOf, three-states}
 
-module _ (n : ℕ) (x : Radios) (right : Right n x) where
+module _ (n : ℕ) (nodes : List Node) (listening flooding : ℕ)
+    (who-listens : listening ≡ setOf n (λ (j : ℕ). isListening (at nodes j)))
+    (who-floods : flooding ≡ setOf n (λ (j : ℕ). isFlooding (at nodes j))) where
   -- a state's test is the same before and after the nodes have counted their slot
-  ticked-same : (p : NodeState → Bool) (j : ℕ) → j < n → p (at (nodesOf n x) j .state) ≡ p (at (ticked n (nodesOf n x)) j .state)
-  ticked-same p j h = ap p (sym (state-ticked n (nodesOf n x) j h))
+  ticked-same : (p : NodeState → Bool) (j : ℕ) → j < n → p (at nodes j .state) ≡ p (at (ticked n nodes) j .state)
+  ticked-same p j h = ap p (sym (state-ticked n nodes j h))
 
   -- how many are in a set of nodes
-  size-of : (p : NodeState → Bool) (s : ℕ) → s ≡ setOf n (λ (j : ℕ). p (at (nodesOf n x) j .state)) → ones s ≡ howMany (λ (v : Node). p (v .state)) (ticked n (nodesOf n x)) n
-  size-of p s e = ap ones e ∙ ones-setOf n (λ (j : ℕ). p (at (nodesOf n x) j .state)) ∙ count-cong n _ _ (ticked-same p)
+  size-of : (p : NodeState → Bool) (s : ℕ) → s ≡ setOf n (λ (j : ℕ). p (at nodes j .state)) → ones s ≡ howMany (λ (v : Node). p (v .state)) (ticked n nodes) n
+  size-of p s e = ap ones e ∙ ones-setOf n (λ (j : ℕ). p (at nodes j .state)) ∙ count-cong n _ _ (ticked-same p)
 
-  pub listening-size : ones (x .listening) ≡ howMany isListening (ticked n (nodesOf n x)) n
-  listening-size = size-of listens (x .listening) (right .listening)
+  pub listening-size : ones listening ≡ howMany isListening (ticked n nodes) n
+  listening-size = size-of listens listening who-listens
 
-  pub flooding-size : ones (x .flooding) ≡ howMany isFlooding (ticked n (nodesOf n x)) n
-  flooding-size = size-of floods (x .flooding) (right .flooding)
+  pub flooding-size : ones flooding ≡ howMany isFlooding (ticked n nodes) n
+  flooding-size = size-of floods flooding who-floods
 
-  pub awake-few : ones (x .listening) + ones (x .flooding) ≤ n
-  awake-few = omega (arith, listening-size, flooding-size, three-states n (ticked n (nodesOf n x)))
+  pub awake-few : ones listening + ones flooding ≤ n
+  awake-few = omega (arith, listening-size, flooding-size, three-states n (ticked n nodes))
 
-  pub listening-lt : x .listening < 2 ^ n
-  listening-lt = subst (λ (s : ℕ). s < 2 ^ n) (sym (right .listening)) (setOf-lt n _)
+  pub listening-lt : listening < 2 ^ n
+  listening-lt = subst (λ (s : ℕ). s < 2 ^ n) (sym who-listens) (setOf-lt n _)
 
   -- the snapshot's numbers
-  pub shot-is : (progress : ℕ) → shotOf (shownOf n progress (ones (x .listening)) (ones (x .flooding))) ≡ snapshot n progress (ticked n (nodesOf n x))
+  pub shot-is : (progress : ℕ) → shotOf (shownOf n progress (ones listening) (ones flooding)) ≡ snapshot n progress (ticked n nodes)
   unfolding snapshot
   shot-is progress =
-      let sleeping : n - ones (x .listening) - ones (x .flooding) ≡ howMany isSleeping (ticked n (nodesOf n x)) n
-      = omega (arith, listening-size, flooding-size, three-states n (ticked n (nodesOf n x))) in
+      let sleeping : n - ones listening - ones flooding ≡ howMany isSleeping (ticked n nodes) n
+      = omega (arith, listening-size, flooding-size, three-states n (ticked n nodes)) in
       λ i slot. slot ∷ progress ∷ listening-size i ∷ flooding-size i ∷ sleeping i ∷ []
 
-  member-of : (p : NodeState → Bool) (s : ℕ) → s ≡ setOf n (λ (j : ℕ). p (at (nodesOf n x) j .state)) → (j : ℕ) → j < n → has s j ≡ p (at (ticked n (nodesOf n x)) j .state)
+  member-of : (p : NodeState → Bool) (s : ℕ) → s ≡ setOf n (λ (j : ℕ). p (at nodes j .state)) → (j : ℕ) → j < n → has s j ≡ p (at (ticked n nodes) j .state)
   member-of p s e j h = ap (λ (k : ℕ). has k j) e ∙ has-setOf n _ j h ∙ ticked-same p j h
 
   -- the slot's attempts
   pub tries-are : (g : Setup) (attempts successes : ℕ) → g .nodes ≡ n
-      → attemptAll (g .heard) (record { attempts = attempts; successes = successes; reached = 0 }) (receivers (g .rows) (has (x .flooding)) (has (x .listening)) n n)
-      ≡ triesIn g (ticked n (nodesOf n x)) attempts successes
+      → attemptAll (g .heard) (record { attempts = attempts; successes = successes; reached = 0 }) (receivers (g .rows) (has flooding) (has listening) n n)
+      ≡ triesIn g (ticked n nodes) attempts successes
   unfolding triesIn
   tries-are g attempts successes e =
       ap (attemptAll (g .heard) (record { attempts = attempts; successes = successes; reached = 0 }))
-      (receivers-cong (g .rows) _ (λ (j : ℕ). isFlooding (at (ticked n (nodesOf n x)) j)) _ (λ (j : ℕ). isListening (at (ticked n (nodesOf n x)) j)) n n (omega arith)
-      (member-of floods (x .flooding) (right .flooding)) (member-of listens (x .listening) (right .listening))
-      ∙ ap (λ (k : ℕ). receivers (g .rows) (λ (j : ℕ). isFlooding (at (ticked n (nodesOf n x)) j)) (λ (j : ℕ). isListening (at (ticked n (nodesOf n x)) j)) k k) (sym e))
+      (receivers-cong (g .rows) _ (λ (j : ℕ). isFlooding (at (ticked n nodes) j)) _ (λ (j : ℕ). isListening (at (ticked n nodes) j)) n n (omega arith)
+      (member-of floods flooding who-floods) (member-of listens listening who-listens)
+      ∙ ap (λ (k : ℕ). receivers (g .rows) (λ (j : ℕ). isFlooding (at (ticked n nodes) j)) (λ (j : ℕ). isListening (at (ticked n nodes) j)) k k) (sym e))

@@ -1,5 +1,7 @@
 -- Two packets are equal when all their fields are.
+use Prim.Native.Nat.{ℕ}
 use mathlib.Core.Bool.{Bool, true, false, _&&_}
+use mathlib.Core.List.{List, [], _∷_}
 use lib.Dec.{eqb}
 use Rattle.network.specs.declared.units.Term.{Term}
 use Rattle.phy.specs.declared.packet.LastAccepted.{LastAccepted}
@@ -40,3 +42,49 @@ samePacket p q =
 abbrev pub holds : Packet → Payload → Bool
 holds p Payload.None = false
 holds p (Payload.Of q) = samePacket p q
+
+-- ---- a packet as twelve numbers
+
+abbrev pub acceptedCase : LastAccepted → ℕ
+acceptedCase LastAccepted.None = 0
+acceptedCase (LastAccepted.At t) = 1
+
+abbrev pub acceptedTerm : LastAccepted → ℕ
+acceptedTerm LastAccepted.None = 0
+acceptedTerm (LastAccepted.At t) = t .0
+
+abbrev pub dataCase : Data → ℕ
+dataCase Data.Empty = 0
+dataCase (Data.Of t) = 1
+
+abbrev pub dataTerm : Data → ℕ
+dataTerm Data.Empty = 0
+dataTerm (Data.Of t) = t .0
+
+abbrev pub backCase : Piggyback → ℕ
+backCase Piggyback.None = 0
+backCase (Piggyback.Of t d) = 1
+
+abbrev pub backTerm : Piggyback → ℕ
+backTerm Piggyback.None = 0
+backTerm (Piggyback.Of t d) = t .0
+
+abbrev pub backData : Piggyback → Data
+backData Piggyback.None = Data.Empty
+backData (Piggyback.Of t d) = d
+
+abbrev pub numbersOf : Packet → List ℕ
+numbersOf p =
+    p .«current_term» .0
+    ∷ p .«nack_term» .0
+    ∷ p .«flags_bitmap»
+    ∷ p .sender .0
+    ∷ acceptedCase (p .«last_accepted_term»)
+    ∷ acceptedTerm (p .«last_accepted_term»)
+    ∷ dataCase (p .«proposal_data»)
+    ∷ dataTerm (p .«proposal_data»)
+    ∷ backCase (p .piggyback)
+    ∷ backTerm (p .piggyback)
+    ∷ dataCase (backData (p .piggyback))
+    ∷ dataTerm (backData (p .piggyback))
+    ∷ []

@@ -32,6 +32,11 @@ altered f i nodes = set nodes i (f (at nodes i))
 abbrev pub howMany : (Node → Bool) → List Node → ℕ → ℕ
 howMany p nodes n = count n (λ (j : ℕ). p (at nodes j))
 
+-- the sum over the first n nodes
+unfoldable pub sumOf : (Node → ℕ) → List Node → ℕ → ℕ
+sumOf f nodes zero = 0
+sumOf f nodes (suc n) = sumOf f nodes n + f (at nodes n)
+
 -- the numbers below n that are so, ascending
 unfoldable pub among : ℕ → (ℕ → Bool) → List ℕ
 among zero f = []

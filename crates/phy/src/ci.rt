@@ -1,24 +1,21 @@
 // One flood by constructive interference, after the source's phy/ci.rs.
-use super::node::begun;
-use super::node::delivered;
-use super::node::holds;
-use super::node::is_flooding;
-use super::node::is_listening;
-use super::node::is_sleeping;
+use super::held::give;
+use super::held::holds;
 use super::packet::Packet;
+use super::packet::numbers;
 use super::slot::Flood;
-use super::slot::Radios;
 use super::slot::Settings;
 use super::slot::put;
 use super::slot::slot;
 use network::units::NodeId;
 ghost use mathlib.Core.Path.{_≡_};
 ghost use mathlib.Core.Bool.{cond};
-ghost use Prim.Native.Nat.{_+_, _^_, _≤_, _<_};
-ghost use lib.ListN.{length};
+ghost use Prim.Native.Nat.{ℕ, _+_, _*_, _^_, _≤_, _<_};
+ghost use lib.ListN.{length, set};
+ghost use Rattle.network.specs.Reception.{Ready};
 ghost use Rattle.phy.specs.Slot.{Setup, Standing};
-ghost use Rattle.phy.specs.Round.{lengthLimit, slots as slotsOf, begun as begunNodes, delivered as deliveredNodes, participants, coverage};
-ghost use Rattle.phy.specs.View.{Right, Sound, Stepped, Rounded, nodesOf};
+ghost use Rattle.phy.specs.Round.{lengthLimit, slots as slotsOf};
+ghost use Rattle.phy.specs.View.{Gave, Sound, Stands, Meets, begunFlood, Slotted, Delivers, Rounded};
 
 // The configured length of a round, or none.
 pub enum RoundSlots {
@@ -47,35 +44,35 @@ pub struct Round {
     pub covered: u64,
 }
 
-// The nodes after a round, the set of those that took part, and how many are covered.
+// After a round: the set of the nodes that took part, how many are covered, and the set of those that
+// hold a packet.
 struct Delivered {
-    radios: Radios,
     part: u64,
     covered: u64,
+    holding: u64,
 }
 
-// The nodes as a round begins.
-fn begin(settings: Settings, initiator: NodeId, packet: Packet, radios: Radios) -> Radios
-    requires { ⌜ (settings .nodes ≤ 32) × (settings .nodes ≤ length (radios .at)) ⌝ }
-    ensures { λ r. ⌜ (nodesOf (settings .nodes) r ≡ begunNodes (settings .nodes) (settings .repeats) (initiator .0) packet (nodesOf (settings .nodes) radios)) × Right (settings .nodes) r ⌝ }
+// As a round begins, all nodes listen but the initiator, which floods and holds the packet.
+fn begin(
+    settings: Settings,
+    initiator: NodeId,
+    packet: [u64; 12],
+    x: Flood,
+    left: &mut [u64],
+    held: &mut [u64],
+) -> Flood
+    requires { ⌜ (settings .nodes ≤ 32) × (initiator .0 < settings .nodes) × (length packet ≡ 12) × (32 ≤ length (now left)) × (384 ≤ length (now held)) ⌝ }
+    ensures { λ r. ⌜ (r ≡ begunFlood (settings .nodes) (initiator .0) x) × (now (left .exit) ≡ set (now (left .entry)) (initiator .0) (settings .repeats)) × Gave (initiator .0) packet (now (held .entry)) (now (held .exit)) ⌝ }
 {
-    let n = settings.nodes;
     let first = initiator.0;
-    let mut at = radios.at;
-    let mut listening = 0u64;
-    let mut flooding = 0u64;
-    for i in 0..n {
-        let v = at[i];
-        let w = begun(v, i == first, packet, settings.repeats);
-        at[i] = w;
-        listening = put(listening, NodeId(i), is_listening(w));
-        flooding = put(flooding, NodeId(i), is_flooding(w));
-    }
-    Radios {
-        at,
-        listening,
-        flooding,
-    }
+    let own = 1u64 << first;
+    left[first] = settings.repeats as u64;
+    give(held, initiator, packet);
+    let mut y = x;
+    y.listening = (1u64 << settings.nodes) - 1 - own;
+    y.flooding = own;
+    y.holding = x.holding | own;
+    y
 }
 
 // The slots of a round, up to the limit or until nobody floods.
@@ -84,18 +81,18 @@ fn slots(
     rows: &[u64; 32],
     limit: u64,
     flood: Flood,
+    left: &mut [u64],
     buffer: &mut [u64],
 ) -> Flood
-    requires { ⌜ Sound settings flood × (flood .slot .0 + limit < 2 ^ 40) ⌝ }
-    ensures { λ r. ⌜ Stepped settings (now (rows .entry)) limit (λ (g : Setup) (s : Standing). slotsOf g limit s) flood (now (buffer .entry)) r (now (buffer .exit)) ⌝ }
+    requires { ⌜ Sound settings flood × (flood .slot .0 + limit < 2 ^ 40) × (32 ≤ length (now left)) × Meets settings flood (now left) (now buffer) ⌝ }
+    ensures { λ r. ⌜ Slotted settings (now (rows .entry)) limit (λ (g : Setup) (s : Standing). slotsOf g limit s) flood (now (left .entry)) (now (buffer .entry)) r (now (left .exit)) (now (buffer .exit)) ⌝ }
 {
     let mut x = flood;
-    let mut left = limit;
-    while 0 < left {
-        x = slot(settings, rows, x, buffer);
-        left -= 1;
-        let flooding = x.radios.flooding;
-        if flooding == 0 {
+    let mut more = limit;
+    while 0 < more {
+        x = slot(settings, rows, x, left, buffer);
+        more -= 1;
+        if x.flooding == 0 {
             return x;
         }
     }
@@ -109,29 +106,34 @@ fn one_if(yes: bool) -> u64
 }
 
 // Sleeping nodes get the packet; who took part, and how many are covered.
-fn deliver(n: usize, initiator: NodeId, packet: Packet, radios: Radios) -> Delivered
-    requires { ⌜ (n ≤ 32) × Right n radios ⌝ }
-    ensures { λ r. ⌜ (nodesOf n (r .radios) ≡ deliveredNodes n packet (nodesOf n radios)) × Right n (r .radios) × (r .part ≡ participants n (initiator .0) (nodesOf n (r .radios))) × (r .covered ≡ coverage n packet (nodesOf n (r .radios))) ⌝ }
+fn deliver(
+    n: usize,
+    initiator: NodeId,
+    packet: [u64; 12],
+    awake: u64,
+    before: u64,
+    held: &mut [u64],
+) -> Delivered
+    requires { ⌜ (n ≤ 32) × (length packet ≡ 12) × (384 ≤ length (now held)) ⌝ }
+    ensures { λ r. ⌜ Delivers n (initiator .0) packet awake before (now (held .entry)) r (now (held .exit)) ⌝ }
 {
     let first = initiator.0;
-    let mut at = radios.at;
     let mut part = 0u64;
     let mut covered = 0u64;
+    let mut holding = 0u64;
     for i in 0..n {
-        let v = at[i];
-        let w = delivered(v, packet);
-        at[i] = w;
-        part = put(part, NodeId(i), (i == first) | is_sleeping(w));
-        covered += one_if(holds(w, packet));
+        let sleeps = (awake >> i) % 2 == 0;
+        if sleeps {
+            give(held, NodeId(i), packet);
+        }
+        part = put(part, NodeId(i), (i == first) | sleeps);
+        covered += one_if(sleeps | holds(held, before, NodeId(i), packet));
+        holding = put(holding, NodeId(i), sleeps | ((before >> i) % 2 == 1));
     }
     Delivered {
-        radios: Radios {
-            at,
-            listening: radios.listening,
-            flooding: radios.flooding,
-        },
         part,
         covered,
+        holding,
     }
 }
 
@@ -143,23 +145,21 @@ pub fn flood_identical_round(
     initiator: NodeId,
     packet: Packet,
     flood: Flood,
+    left: &mut [u64],
+    held: &mut [u64],
     buffer: &mut [u64],
 ) -> Round
-    requires { ⌜ Sound settings flood × (flood .slot .0 + limit < 2 ^ 40) ⌝ }
-    ensures { λ r. ⌜ Rounded settings (now (rows .entry)) limit (initiator .0) packet flood (now (buffer .entry)) r (now (buffer .exit)) ⌝ }
+    requires { ⌜ Sound settings flood × (initiator .0 < settings .nodes) × (flood .slot .0 + limit < 2 ^ 40) × (32 ≤ length (now left)) × (384 ≤ length (now held)) × ((seed : ℕ) × (s : Standing) × Ready (settings .rate) seed (flood .attempts) (flood .source) × Stands (settings .nodes) flood (now left) (now held) (now buffer) s) ⌝ }
+    ensures { λ r. ⌜ Rounded settings (now (rows .entry)) limit (initiator .0) packet flood (now (left .entry)) (now (held .entry)) (now (buffer .entry)) r (now (left .exit)) (now (held .exit)) (now (buffer .exit)) ⌝ }
 {
-    let n = settings.nodes;
-    let radios = flood.radios;
-    let mut x = flood;
-    x.radios = begin(settings, initiator, packet, radios);
-    let ended = slots(settings, rows, limit, x, buffer);
-    let radios2 = ended.radios;
-    let done = deliver(n, initiator, packet, radios2);
-    let radios3 = done.radios;
-    let mut after = ended;
-    after.radios = radios3;
+    let key = numbers(packet);
+    let x = begin(settings, initiator, key, flood, left, held);
+    let mut ended = slots(settings, rows, limit, x, left, buffer);
+    let awake = ended.listening | ended.flooding;
+    let done = deliver(settings.nodes, initiator, key, awake, ended.holding, held);
+    ended.holding = done.holding;
     Round {
-        flood: after,
+        flood: ended,
         part: done.part,
         covered: done.covered,
     }

@@ -3,7 +3,7 @@
 use network::units::NodeId;
 use network::units::Term;
 ghost use mathlib.Core.Path.{_≡_};
-ghost use Rattle.phy.specs.Packets as Packets;
+ghost use Rattle.phy.specs.Packets.{acceptedCase, acceptedTerm, dataCase, dataTerm, backCase, backTerm, backData, numbersOf};
 
 // The last accepted term that a node knows of, or none.
 pub enum LastAccepted {
@@ -34,65 +34,90 @@ pub struct Packet {
     pub piggyback: Piggyback,
 }
 
-fn same_accepted(a: LastAccepted, b: LastAccepted) -> bool
-    ensures { λ r. ⌜ r ≡ Packets.sameAccepted a b ⌝ }
+fn accepted_case(a: LastAccepted) -> u64
+    ensures { λ r. ⌜ r ≡ acceptedCase a ⌝ }
 {
     match a {
-        LastAccepted::None => match b {
-            LastAccepted::None => true,
-            LastAccepted::At(_) => false,
-        },
-        LastAccepted::At(s) => match b {
-            LastAccepted::None => false,
-            LastAccepted::At(t) => s.0 == t.0,
-        },
+        LastAccepted::None => 0,
+        LastAccepted::At(_) => 1,
     }
 }
 
-fn same_data(a: Data, b: Data) -> bool
-    ensures { λ r. ⌜ r ≡ Packets.sameData a b ⌝ }
+fn accepted_term(a: LastAccepted) -> u64
+    ensures { λ r. ⌜ r ≡ acceptedTerm a ⌝ }
 {
     match a {
-        Data::Empty => match b {
-            Data::Empty => true,
-            Data::Of(_) => false,
-        },
-        Data::Of(s) => match b {
-            Data::Empty => false,
-            Data::Of(t) => s.0 == t.0,
-        },
+        LastAccepted::None => 0,
+        LastAccepted::At(t) => t.0,
     }
 }
 
-fn same_piggyback(a: Piggyback, b: Piggyback) -> bool
-    ensures { λ r. ⌜ r ≡ Packets.samePiggyback a b ⌝ }
+fn data_case(d: Data) -> u64
+    ensures { λ r. ⌜ r ≡ dataCase d ⌝ }
 {
-    match a {
-        Piggyback::None => match b {
-            Piggyback::None => true,
-            Piggyback::Of(_, _) => false,
-        },
-        Piggyback::Of(s, d) => match b {
-            Piggyback::None => false,
-            Piggyback::Of(t, e) => (s.0 == t.0) & same_data(d, e),
-        },
+    match d {
+        Data::Empty => 0,
+        Data::Of(_) => 1,
     }
 }
 
-// Whether all fields of two packets are equal.
-pub fn same_packet(p: Packet, q: Packet) -> bool
-    ensures { λ r. ⌜ r ≡ Packets.samePacket p q ⌝ }
+fn data_term(d: Data) -> u64
+    ensures { λ r. ⌜ r ≡ dataTerm d ⌝ }
 {
-    let accepted = p.last_accepted_term;
-    let accepted2 = q.last_accepted_term;
+    match d {
+        Data::Empty => 0,
+        Data::Of(t) => t.0,
+    }
+}
+
+fn back_case(b: Piggyback) -> u64
+    ensures { λ r. ⌜ r ≡ backCase b ⌝ }
+{
+    match b {
+        Piggyback::None => 0,
+        Piggyback::Of(_, _) => 1,
+    }
+}
+
+fn back_term(b: Piggyback) -> u64
+    ensures { λ r. ⌜ r ≡ backTerm b ⌝ }
+{
+    match b {
+        Piggyback::None => 0,
+        Piggyback::Of(t, _) => t.0,
+    }
+}
+
+fn back_data(b: Piggyback) -> Data
+    ensures { λ r. ⌜ r ≡ backData b ⌝ }
+{
+    match b {
+        Piggyback::None => Data::Empty,
+        Piggyback::Of(_, d) => d,
+    }
+}
+
+// The packet as twelve numbers, by which two packets are equal exactly when all numbers are: of an
+// enum which case it is, and its term, 0 where there is none.
+pub fn numbers(p: Packet) -> [u64; 12]
+    ensures { λ r. ⌜ r ≡ numbersOf p ⌝ }
+{
+    let last = p.last_accepted_term;
     let data = p.proposal_data;
-    let data2 = q.proposal_data;
-    let again = p.piggyback;
-    let again2 = q.piggyback;
-    let enums = same_accepted(accepted, accepted2)
-        & same_data(data, data2)
-        & same_piggyback(again, again2);
-    let terms = (p.current_term.0 == q.current_term.0) & (p.nack_term.0 == q.nack_term.0);
-    let from = (p.flags_bitmap == q.flags_bitmap) & (p.sender.0 == q.sender.0);
-    terms & from & enums
+    let back = p.piggyback;
+    let again = back_data(back);
+    [
+        p.current_term.0,
+        p.nack_term.0,
+        p.flags_bitmap,
+        p.sender.0 as u64,
+        accepted_case(last),
+        accepted_term(last),
+        data_case(data),
+        data_term(data),
+        back_case(back),
+        back_term(back),
+        data_case(again),
+        data_term(again),
+    ]
 }

@@ -1,8 +1,4 @@
 // One slot of a flood.
-use super::node::Node;
-use super::node::is_flooding;
-use super::node::is_listening;
-use super::node::stepped;
 use super::snapshot::Shown;
 use super::snapshot::Taken;
 use super::snapshot::take_snapshots;
@@ -15,11 +11,10 @@ ghost use mathlib.Core.Bool.{Bool};
 ghost use mathlib.Core.List.{[], _∷_};
 ghost use Prim.Native.Nat.{ℕ, _+_, _*_, _^_, _≤_, _<_};
 ghost use lib.Count.{ones};
-ghost use lib.ListN.{length, getD};
+ghost use lib.ListN.{length};
 ghost use Rattle.network.specs.Graph.{has as hasNode, setOf};
-ghost use Rattle.phy.specs.Node.{new as newNode, total};
-ghost use Rattle.phy.specs.Slot.{among, receivers, ticked, moved, slotStep};
-ghost use Rattle.phy.specs.View.{TriedOn, Right, Sound, Stepped, nodesOf, shownOf};
+ghost use Rattle.phy.specs.Slot.{among, receivers, slotStep};
+ghost use Rattle.phy.specs.View.{TriedOn, leftAfter, Advanced, Sound, Meets, Slotted, shownOf};
 
 // What a round is given: how many nodes there are, the repeats, the snapshot interval, the progress
 // that snapshots show, and the loss rate.
@@ -31,9 +26,8 @@ pub struct Settings {
     pub rate: f64,
 }
 
-// The nodes, and the sets of those that listen and those that flood.
-pub struct Radios {
-    pub at: [Node; 32],
+// The sets of the nodes that listen and of those that flood.
+pub struct Awake {
     pub listening: u64,
     pub flooding: u64,
 }
@@ -46,9 +40,16 @@ pub struct Tried {
     pub source: DrawSource,
 }
 
-// Where a run stands in its floods.
+// Where a run stands in its floods: the sets of the nodes that listen, that flood and that hold a
+// packet, and the slots that all nodes have spent in each state. A lent slice has the repeats that
+// each flooding node has left, another the packets held.
 pub struct Flood {
-    pub radios: Radios,
+    pub listening: u64,
+    pub flooding: u64,
+    pub holding: u64,
+    pub slots_listen: u64,
+    pub slots_flood: u64,
+    pub slots_sleep: u64,
     pub attempts: u64,
     pub successes: u64,
     pub slot: Slot,
@@ -124,23 +125,37 @@ pub fn put(set: u64, j: NodeId, present: bool) -> u64
     if present { set | (1 << at) } else { set }
 }
 
-// Every node counts its state, and then follows what it heard.
-fn advance(radios: Radios, n: usize, repeats: u32, reached: u64) -> Radios
-    requires { ⌜ (n ≤ 32) × (n ≤ length (radios .at)) × ((k : ℕ) → k < n → total (getD (radios .at) k newNode) + 1 < 2 ^ 64) ⌝ }
-    ensures { λ r. ⌜ (nodesOf n r ≡ moved n repeats reached (ticked n (nodesOf n radios))) × Right n r ⌝ }
+// The repeats that a node has left after a slot: a flooder has lost one, a listener that heard has
+// all of them.
+fn left_after(floods: bool, heard: bool, left: u64, repeats: u64) -> u64
+    ensures { λ r. ⌜ r ≡ leftAfter floods heard left repeats ⌝ }
 {
-    let mut at = radios.at;
+    if floods {
+        if left == 0 {
+            return 0;
+        }
+        return left - 1;
+    }
+    if heard { repeats } else { left }
+}
+
+// The nodes after a slot's transmissions, of which the nodes of a set heard one.
+fn advance(left: &mut [u64], n: usize, repeats: u64, awake: Awake, reached: u64) -> Awake
+    requires { ⌜ (n ≤ 32) × (n ≤ length (now left)) ⌝ }
+    ensures { λ r. ⌜ Advanced n repeats awake reached (now (left .entry)) r (now (left .exit)) ⌝ }
+{
     let mut listening = 0u64;
     let mut flooding = 0u64;
     for i in 0..n {
-        let v = at[i];
-        let w = stepped(v, (reached >> i) % 2 == 1, repeats);
-        at[i] = w;
-        listening = put(listening, NodeId(i), is_listening(w));
-        flooding = put(flooding, NodeId(i), is_flooding(w));
+        let heard = (reached >> i) % 2 == 1;
+        let floods = (awake.flooding >> i) % 2 == 1;
+        let listens = (awake.listening >> i) % 2 == 1;
+        let now = left_after(floods, heard, left[i], repeats);
+        left[i] = now;
+        listening = put(listening, NodeId(i), listens & !heard);
+        flooding = put(flooding, NodeId(i), heard | (floods & (now != 0)));
     }
-    Radios {
-        at,
+    Awake {
         listening,
         flooding,
     }
@@ -162,19 +177,23 @@ fn shown(n: usize, progress: u64, listening: u64, flooding: u64) -> Shown
 }
 
 // One slot: snapshots, attempts, and what follows for each node.
-pub fn slot(settings: Settings, rows: &[u64; 32], x: Flood, buffer: &mut [u64]) -> Flood
-    requires { ⌜ Sound settings x × (x .slot .0 < 2 ^ 40) ⌝ }
-    ensures { λ r. ⌜ Stepped settings (now (rows .entry)) 1 slotStep x (now (buffer .entry)) r (now (buffer .exit)) ⌝ }
+pub fn slot(
+    settings: Settings,
+    rows: &[u64; 32],
+    x: Flood,
+    left: &mut [u64],
+    buffer: &mut [u64],
+) -> Flood
+    requires { ⌜ Sound settings x × (x .slot .0 < 2 ^ 40) × (32 ≤ length (now left)) × Meets settings x (now left) (now buffer) ⌝ }
+    ensures { λ r. ⌜ Slotted settings (now (rows .entry)) 1 slotStep x (now (left .entry)) (now (buffer .entry)) r (now (left .exit)) (now (buffer .exit)) ⌝ }
 {
     let n = settings.nodes;
-    let radios = x.radios;
-    let listening = radios.listening;
-    let flooding = radios.flooding;
     let this = x.slot;
+    let seen = shown(n, settings.progress, x.listening, x.flooding);
     let taken = take_snapshots(
         this,
         settings.interval,
-        shown(n, settings.progress, listening, flooding),
+        seen,
         Taken {
             next: Slot(x.next_snapshot.0),
             count: x.snapshots,
@@ -185,8 +204,8 @@ pub fn slot(settings: Settings, rows: &[u64; 32], x: Flood, buffer: &mut [u64]) 
     let tried = attempts(
         rows,
         n,
-        listening,
-        flooding,
+        x.listening,
+        x.flooding,
         settings.rate,
         Tried {
             attempts: x.attempts,
@@ -195,10 +214,19 @@ pub fn slot(settings: Settings, rows: &[u64; 32], x: Flood, buffer: &mut [u64]) 
             source,
         },
     );
-    let radios2 = advance(radios, n, settings.repeats, tried.reached);
     let rest = tried.source;
+    let before = Awake {
+        listening: x.listening,
+        flooding: x.flooding,
+    };
+    let awake = advance(left, n, settings.repeats as u64, before, tried.reached);
     Flood {
-        radios: radios2,
+        listening: awake.listening,
+        flooding: awake.flooding,
+        holding: x.holding,
+        slots_listen: x.slots_listen + seen.listening,
+        slots_flood: x.slots_flood + seen.flooding,
+        slots_sleep: x.slots_sleep + seen.sleeping,
         attempts: tried.attempts,
         successes: tried.successes,
         slot: Slot(this.0 + 1),

@@ -1,35 +1,37 @@
 -- The turns' steps put together. Assumes nothing.
-use Prim.Native.Nat.{ℕ, zero, suc, _≤_}
+use Prim.Native.Nat.{ℕ, zero, suc, _+_, _≤_}
 use mathlib.Core.Bool.{Bool, true, false, cond, true≢false}
+use mathlib.Core.List.{List}
 use mathlib.Core.Logic.{⊎-elim}
 use mathlib.Core.Option.{Option, none, some}
 use mathlib.Core.Path.{_≡_, refl, sym, ap, _∙_, subst}
 use native.Mathlib.Nat.{le-trans, le-refl}
 use native.Mathlib.Omega.{arith}
 use borrow.Author.Tests.{leb-true, leb-false, ltb-true}
-use lib.Dec.{eqb, leb, ltb}
+use lib.Dec.{leb, ltb}
 use lib.ListN.{getD}
 use Rattle.phy.specs.declared.packet.Data.{Data}
 use Rattle.phy.specs.declared.packet.LastAccepted.{LastAccepted}
 use Rattle.phy.specs.declared.packet.Piggyback.{Piggyback}
 use Rattle.phy.specs.declared.packet.Packet.{Packet}
-use Rattle.protocol.specs.declared.paxos.NodePaxosState.{NodePaxosState}
 use Rattle.protocol.specs.declared.turns.Prepared.{Prepared}
-use Rattle.protocol.specs.Paxos.{Pending, State, union, voted, mergeVotesUpTo, quorum, greatestQuorum, recovery, termSet}
+use Rattle.protocol.specs.Paxos.{Pending, State, held, union, voted, mergeVotesUpTo, quorum, greatestQuorum, recovery, termSet}
 use Rattle.protocol.specs.Turns.{Initiated, counted, currentTerm, proposalData, announce, initiatorTurn}
-use Rattle.protocol.specs.View.{dataOf, pendingOf, view, lastBelow, dataBelow, proposalBelow, backBelow, Kept, Next, Carried, Initiates}
+use Rattle.protocol.specs.View.{dataOf, dataAt, lastAt, lastOf, pendingOf, view, lastBelow, dataBelow, proposalBelow, backBelow, Kept, Wrote, Next, Carried, Initiates}
 use Rattle.protocol.proofs.Places.{either}
 use Rattle.protocol.proofs.Sets.{union-assoc}
-use Rattle.protocol.proofs.Kept.{state-is, last-mono}
-use Rattle.protocol.proofs.Steps.{recovery-view}
+use Rattle.protocol.proofs.Frame.{wrote-then}
+use Rattle.protocol.proofs.Kept.{state-is, last-mono, pending-none}
+use Rattle.protocol.proofs.Steps.{recovery-view, held-free}
 
 -- two steps, one after the other
-pub next-then : {P Q R : ℕ → Type 0} {s r q : NodePaxosState} {x : State} (f : State → State) →
-    ((c : ℕ) → R c → P c) → ((c : ℕ) → R c → Q c) → Next P s r x → Next Q r q (f (view r)) → Next R s q (f x)
-next-then f p q a b =
+pub next-then : {P Q R : ℕ → Type 0} {at : ℕ} {b b' b'' : List ℕ} {x : State} (f : State → State) →
+    ((c : ℕ) → R c → P c) → ((c : ℕ) → R c → Q c) → Next P at b b' x → Next Q at b' b'' (f (view b' at)) → Next R at b b'' (f x)
+next-then f p q m n =
     record {
-      kept = λ c h k. b .kept c (q c h) (a .kept c (p c h) k);
-      is = b .is ∙ ap f (a .is);
+      wrote = wrote-then (m .wrote) (n .wrote);
+      kept = λ c h k. n .kept c (q c h) (m .kept c (p c h) k);
+      is = n .is ∙ ap f (m .is);
     }
 
 -- ---- two merges are one, of the union
@@ -46,15 +48,15 @@ merge-twice u f g s = state-is refl (λ t. voted-twice (leb t u) f g (s .pending
 -- ---- what a state keeps below the counter
 
 -- a term with a quorum is pending, so it is below the counter
-pub quorum-below : {c : ℕ} {s : NodePaxosState} (k n : ℕ) → Kept c s → lastBelow c (greatestQuorum k n (view s))
-unfolding greatestQuorum pendingOf
+pub quorum-below : {c : ℕ} {b : List ℕ} {at : ℕ} (k n : ℕ) → Kept c b at → lastBelow c (greatestQuorum k n (view b at))
+unfolding greatestQuorum
 quorum-below zero n kept = tt
-quorum-below {c} {s} (suc k) n kept = go (quorum n (pendingOf s k)) refl (quorum-below k n kept)
+quorum-below {c} {b} {at} (suc k) n kept = go (quorum n (pendingOf b at k)) refl (quorum-below k n kept)
   where
-    go : (b : Bool) → quorum n (pendingOf s k) ≡ b → lastBelow c (greatestQuorum k n (view s)) → lastBelow c (cond b (LastAccepted.At (record { 0 = k })) (greatestQuorum k n (view s)))
+    go : (x : Bool) → quorum n (pendingOf b at k) ≡ x → lastBelow c (greatestQuorum k n (view b at)) → lastBelow c (cond x (LastAccepted.At (record { 0 = k })) (greatestQuorum k n (view b at)))
     go true e h =
         ⊎-elim
-        (λ w. absurd (true≢false (sym e ∙ rw (kept .below k (leb-true c k w)))))
+        (λ w. absurd (true≢false (sym e ∙ ap (quorum n) (pending-none b at k (kept .pending-below k (leb-true c k w))))))
         (λ w. leb-false c k w)
         (either (leb c k))
     go false e h = h
@@ -67,22 +69,22 @@ data-below k = go (ltb k 64) refl
     go false e = tt
 
 -- a term that can be recovered is held, so it is below the counter
-pub recovery-below : {c : ℕ} {s : NodePaxosState} (t : ℕ) → Kept c s → backBelow c (recovery t (view s))
+pub recovery-below : {c : ℕ} {b : List ℕ} {at : ℕ} (t : ℕ) → Kept c b at → backBelow c (recovery t (view b at))
 unfolding recovery
 recovery-below zero kept = tt
-recovery-below {c} {s} (suc t) kept =
-    rw (recovery-view (suc t) kept (λ q. omega arith)) (go (eqb (getD (s .status) (suc t) 0) 0) refl)
+recovery-below {c} {b} {at} (suc t) kept =
+    rw (recovery-view (suc t) kept (λ q. omega arith)) (go (held (suc t) (view b at)) refl)
   where
-    go : (b : Bool) → eqb (getD (s .status) (suc t) 0) 0 ≡ b →
-        backBelow c (cond b Piggyback.None (Piggyback.Of (record { 0 = suc t }) (dataOf (getD (s .payload) (suc t) 0))))
-    go true e = tt
-    go false e = (
+    go : (x : Bool) → held (suc t) (view b at) ≡ x →
+        backBelow c (cond x (Piggyback.Of (record { 0 = suc t }) (dataAt b at (suc t))) Piggyback.None)
+    go true e = (
       ⊎-elim
-          (λ w. absurd (true≢false (rw (kept .below (suc t) (leb-true c (suc t) w)) at e)))
+          (λ w. absurd (true≢false (sym e ∙ held-free (suc t) kept (leb-true c (suc t) w))))
           (λ w. leb-false c (suc t) w)
           (either (leb c (suc t))),
-      data-below (getD (s .payload) (suc t) 0),
+      data-below (getD b (at + 64 + suc t) 0),
     )
+    go false e = tt
 
 -- ---- terms below a counter are below a greater one
 
@@ -120,21 +122,27 @@ unfolding initiatorTurn announce
 packet-carried i n c b pb s h l k =
     record { last = l; proposal = made b c h; back = back-mono pb (more b c) k }
 
-pub initiates : (i n c : ℕ) (b : Bool) (pb : Piggyback) (s : State) (r : Prepared) (y : Initiated) →
-    counted b c ≤ 64 → Kept (counted b c) (r .state) → y ≡ initiatorTurn i n c b pb s →
-    view (r .state) ≡ y .state → r .packet ≡ y .packet → r .newly ≡ termSet (y .newly) →
-    Initiates b c pb r (initiatorTurn i n c b pb s)
+-- a last accepted term is below what its number is at most
+pub last-below-of : (x c : ℕ) → x ≤ c → lastBelow c (lastOf x)
+last-below-of zero c h = tt
+last-below-of (suc x) c h = h
+
+pub initiates : (i n c : ℕ) (p : Bool) (pb : Piggyback) (s : State) (at : ℕ) (b b' : List ℕ) (r : Prepared) (y : Initiated) →
+    counted p c ≤ 64 → Wrote at b b' → Kept (counted p c) b' at → y ≡ initiatorTurn i n c p pb s →
+    view b' at ≡ y .state → r .packet ≡ y .packet → r .newly ≡ termSet (y .newly) →
+    Initiates p c pb at b r b' (initiatorTurn i n c p pb s)
 unfolding initiatorTurn announce
-initiates i n c b pb s r y h kept e st pk nw =
-    let now : view (r .state) ≡ initiatorTurn i n c b pb s .state = st ∙ ap (λ (x : Initiated). x .state) e in
-    let sent : r .packet ≡ initiatorTurn i n c b pb s .packet = pk ∙ ap (λ (x : Initiated). x .packet) e in
+initiates i n c p pb s at b b' r y h wrote kept e st pk nw =
+    let now : view b' at ≡ initiatorTurn i n c p pb s .state = st ∙ ap (λ (x : Initiated). x .state) e in
+    let sent : r .packet ≡ initiatorTurn i n c p pb s .packet = pk ∙ ap (λ (x : Initiated). x .packet) e in
     record {
+      wrote = wrote;
       kept = kept;
       state = now;
       packet = sent;
       newly = nw ∙ ap (λ (x : Initiated). termSet (x .newly)) e;
       carried = λ k.
-          subst (Carried (counted b c)) (sym sent)
-          (packet-carried i n c b pb s h
-          (subst (λ (x : State). lastBelow (counted b c) (x .last)) now (kept .last-below)) k);
+          subst (Carried (counted p c)) (sym sent)
+          (packet-carried i n c p pb s h
+          (subst (λ (x : State). lastBelow (counted p c) (x .last)) now (last-below-of (lastAt b' at) (counted p c) (kept .last-below))) k);
     }

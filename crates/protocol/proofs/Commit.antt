@@ -78,6 +78,18 @@ commit-skip zero x h = refl
 commit-skip (suc k) x h =
     ap (commitTerm k) (commit-skip k x (λ t g. h t (omega arith))) ∙ rw (h k (omega arith))
 
+-- a commit past terms that were logged before it
+pub commit-past : (d t : ℕ) (x : State) → ((j : ℕ) → t ≤ j → j < t + d → logged j (x .log) ≡ true) → commitBelow (t + d) x ≡ commitBelow t x
+unfolding commitBelow commitTerm
+commit-past zero t x h =
+    let e : t + zero ≡ t = omega arith in
+    rw e
+commit-past (suc d) t x h =
+    let e : t + suc d ≡ suc (t + d) = omega arith in
+    let l : logged (t + d) (commitBelow (t + d) x .log) ≡ true =
+    below-other (t + d) (t + d) x (omega arith) ∙ h (t + d) (omega arith) (omega arith) in
+    rw (e, l) (commit-past d t x (λ j a b. h j a (omega arith)))
+
 pub newly-skip : (k : ℕ) (l : List Entry) → ((t : ℕ) → t < k → logged t l ≡ true) → newlyBelow k l ≡ []
 unfolding newlyBelow
 newly-skip zero l h = refl

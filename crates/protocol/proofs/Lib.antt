@@ -1,11 +1,14 @@
 -- Laws that several proofs use.
 --     Sets       the definitions' sets of nodes, and the code's operators on words
 --     Places     a list after a store, by place; tests on numbers
---     Logs       what is logged, after an entry is added or a payload is written
---     Kept       each step on the code's arrays: the state that it gives, and what it keeps
+--     Logs       what is logged, by entries
+--     Words      sets of terms in a word
+--     Frame      a node's numbers among those of a slice: stores, what depends on them alone, and the first state
+--     Kept       each step on a node's numbers: the state that it gives, and what it keeps
 --     Commit     laws of commits and of the searches
 --     Idempotent a commit is idempotent, and monotone in its bound
---     Steps      each method as its definition has it
+--     Steps      each function as its definition has it
+--     Merges     votes that are merged, term by term
 --     Chains     the turns' steps put together
 --     Laws       what every turn keeps
 --     TurnLaws   the same of each turn, by name
@@ -13,10 +16,13 @@
 pub mod Sets
 pub mod Places
 pub mod Logs
+pub mod Words
+pub mod Frame
 pub mod Kept
 pub mod Commit
 pub mod Idempotent
 pub mod Steps
+pub mod Merges
 pub mod Chains
 pub mod Laws
 pub mod TurnLaws

@@ -60,7 +60,7 @@ union-assoc a b c = union-assoc-in 64 a b c
 
 -- ---- by nodes
 
-half-shift : (x i : ℕ) → x / 2 ^ suc i ≡ x / 2 / 2 ^ i
+pub half-shift : (x i : ℕ) → x / 2 ^ suc i ≡ x / 2 / 2 ^ i
 half-shift x i = ap (λ (j : ℕ). x / 2 ^ j) (sym (one-add i)) ∙ sym (shr-shr x 1 i)
 
 union-bit-in : (k i a b : ℕ) → i < k → unionIn k a b / 2 ^ i % 2 ≡ max (a / 2 ^ i % 2) (b / 2 ^ i % 2)

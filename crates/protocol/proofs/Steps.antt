@@ -1,108 +1,185 @@
--- Each method's step as the definition has it: the state that the arrays then stand for, and that what held is kept.
+-- Each function's step as the definition has it: the state that the numbers then stand for, and that what held is kept.
 -- Assumes nothing.
-use Prim.Native.Nat.{ℕ, zero, suc, _+_, _^_, _<_, _≤_}
-use native.Mathlib.Nat.{le-refl, pow-suc}
-use lib.Pow.{pow-mono}
-use mathlib.Core.Bool.{Bool, true, false, cond, _&&_, true≢false, and-false}
-use mathlib.Core.List.{List, append-nil}
-use mathlib.Core.Option.{none, some}
-use mathlib.Core.Path.{_≡_, refl, sym, ap, _∙_}
+use Prim.Native.Nat.{ℕ, zero, suc, _+_, _-_, _^_, _<_, _≤_, max}
+use native.Mathlib.Nat.{le-refl, le-trans, lt-of-lt-of-le}
+use mathlib.Core.Bool.{Bool, true, false, cond, not, _&&_, _||_, true≢false}
+use mathlib.Core.List.{List, _++_, append-nil}
+use mathlib.Core.Logic.{_⊎_, inl, inr}
+use mathlib.Core.Option.{Option, none, some}
+use mathlib.Core.Path.{_≡_, refl, sym, ap, ap₂, _∙_}
 use native.Mathlib.Omega.{arith}
-use borrow.Author.Tests.{ne-eqb, lt-ltb, ltb-false}
+use borrow.Author.Tests.{lt-ltb, le-ltb, leb-true, leb-false, le-leb}
+use lib.Bits.{bitAnd, bitOr}
+use lib.Count.{ones}
 use lib.Dec.{eqb, leb, ltb}
-use lib.ListN.{length, getD, take, replicate, List·getD-eq-default}
+use lib.Pow.{pow-pos, pow-mono}
+use Rattle.network.specs.Graph.{has, setOf}
+use Rattle.network.proofs.Sets.{set-ext}
 use Rattle.phy.specs.declared.packet.Data.{Data}
-use Rattle.phy.specs.declared.packet.LastAccepted.{LastAccepted}
 use Rattle.phy.specs.declared.packet.Piggyback.{Piggyback}
-use Rattle.protocol.specs.declared.paxos.NodePaxosState.{NodePaxosState}
-use Rattle.protocol.specs.Paxos.{State, logged, held, hold, holdNew, put, voted, union, mergeVotesUpTo, raise, commitTerm, commitBelow, newlyBelow, termSet, dataIn, reply, recovery}
-use Rattle.protocol.specs.View.{dataOf, codeOf, pendingAt, votesAfter, logOf, pendingOf, view, lastBelow, dataBelow, Kept, Next}
-use Rattle.protocol.proofs.Places.{three, same-or}
-use Rattle.protocol.proofs.Logs.{find-entries}
-use Rattle.protocol.proofs.Commit.{commit-next, newly-more, newly-same, newly-lt, below-other}
-use Rattle.protocol.proofs.Kept.{state-is, withLast, last-kept, entered, entered-kept, entered-pending, entered-view, heldAt, held-log, held-pending, held-kept, withVotes, votes-kept, status-held}
+use Rattle.protocol.specs.Paxos.{Entry, Pending, State, logged, held, hold, holdNew, isSome, put, entry, raise, after, commitTerm, commitBelow, commitUpTo, newlyUpTo, termSet, dataIn, reply, recovery}
+use Rattle.protocol.specs.View.{dataOf, codeOf, lastOf, votesAt, dataAt, pendingSet, loggedSet, lastAt, entryAt, logOf, pendingOf, view, dataBelow, Kept, Wrote, Next}
+use Rattle.protocol.proofs.Places.{either, same-or}
+use Rattle.protocol.proofs.Logs.{or-left, find-by-term}
+use Rattle.protocol.proofs.Words.{has-minus, has-reach, reach-is}
+use Rattle.protocol.proofs.Commit.{commit-next, commit-past, newly-bit, newly-lt, below-other}
+use Rattle.protocol.proofs.Frame.{wrote-none, wrote-then, wrote-set}
+use Rattle.protocol.proofs.Kept.{state-is, held-is, pending-none, last-raise, risen, risen-other, risen-log, risen-pending, risen-last, risen-kept, entered, entered-room, entered-wrote, entered-view, entered-pending, entered-last, entered-kept, heldAt, held-wrote, held-log, held-pending, held-last, held-kept}
 
-pub next-same : {P : ℕ → Type 0} {s : NodePaxosState} {x : State} → view s ≡ x → Next P s s x
-next-same e = record { kept = λ c p k. k; is = e }
+pub next-same : {P : ℕ → Type 0} {at : ℕ} {b : List ℕ} {x : State} → view b at ≡ x → Next P at b b x
+next-same {P} {at} {b} e = record { wrote = wrote-none at b; kept = λ c p k. k; is = e }
 
--- no term is pending past the arrays
-pub pending-out : {c : ℕ} {s : NodePaxosState} (t : ℕ) → Kept c s → 64 ≤ t → pendingOf s t ≡ none
-unfolding pendingOf
-pending-out {c} {s} t k h =
-    let h : length (s .status) ≤ t = omega (arith, k .status-length) in
-    rw (List·getD-eq-default (s .status) 0 h)
+-- no term from 64 on is pending
+pub pending-out : {c : ℕ} {b : List ℕ} {at : ℕ} (t : ℕ) → Kept c b at → 64 ≤ t → pendingOf b at t ≡ none
+pending-out {c} {b} {at} t k h = pending-none b at t (k .pending-below t (le-trans (k .room) h))
 
--- ---- commits
+pub after-last : (x : ℕ) → after (lastOf x) ≡ x
+after-last zero = refl
+after-last (suc x) = omega arith
 
-pub raise-below : {c : ℕ} (t : ℕ) (l : LastAccepted) → lastBelow c l → t < c → lastBelow c (raise t l)
-raise-below t LastAccepted.None h g = g
-raise-below t (LastAccepted.At u) h g = omega arith
+-- ---- a commit of one term
 
-pub commit-logged : {c : ℕ} {s : NodePaxosState} (t : ℕ) → Kept c s → getD (s .status) t 0 ≡ 2 → view s ≡ commitTerm t (view s)
-unfolding commitTerm
-commit-logged t k e = rw (k .logged-is t, e)
+module _ (b : List ℕ) (at t m : ℕ) (k : Kept 64 b at) (free : has (loggedSet b at) t ≡ false) (is-last : m ≡ max (lastAt b at) (t + 1)) where
+  raised-kept : (c : ℕ) → t < c → Kept c b at → Kept c (risen b at m) at
+  raised-kept c h g = risen-kept b at m g (omega (arith, g .last-below))
 
-module _ (s : NodePaxosState) (t : ℕ) (l : LastAccepted) (k : Kept 64 s) (is-last : l ≡ raise t (s .«last_accepted»)) where
-  raised-kept : (c : ℕ) → t < c → Kept c s → Kept c (withLast s l)
-  raised-kept c h g = last-kept l (rw is-last (raise-below t (s .«last_accepted») (g .last-below) h)) g
+  raised-wrote : Wrote at b (risen b at m)
+  raised-wrote = wrote-set at (at + 194) m b (omega arith) (omega arith)
 
-  pub commit-absent : (getD (s .status) t 0 ≡ 2 → ⊥) → (getD (s .status) t 0 ≡ 1 → ⊥) → Next (λ c. t < c) s (withLast s l) (commitTerm t (view s))
-  unfolding commitTerm logOf pendingOf
-  commit-absent n2 n1 =
-      let absent : pendingOf s t ≡ none = rw (ne-eqb (getD (s .status) t 0) 1 n1) in
+  raised-last : lastOf (lastAt (risen b at m) at) ≡ raise t (lastOf (lastAt b at))
+  raised-last = ap lastOf (risen-last b at m k ∙ is-last) ∙ last-raise (lastAt b at) t
+
+  pub commit-absent : has (pendingSet b at) t ≡ false → Next (λ c. t < c) at b (risen b at m) (commitTerm t (view b at))
+  unfolding commitTerm
+  commit-absent out =
+      let absent : pendingOf b at t ≡ none = pending-none b at t out in
       record {
+        wrote = raised-wrote;
         kept = raised-kept;
         is =
-            rw (k .logged-is t, ne-eqb (getD (s .status) t 0) 2 n2)
+            rw (k .logged-is t, free)
             (state-is
-            (rw absent (sym (append-nil (logOf s))))
-            (λ j. same-or (λ (b : Bool). pendingOf s j ≡ cond b none (pendingOf s j)) j t (λ q. rw q absent) (λ q. refl))
-            is-last);
+            (risen-log b at m k ∙ rw absent (sym (append-nil (logOf b at))))
+            (λ j. risen-pending b at m k j ∙ same-or (λ (x : Bool). pendingOf b at j ≡ cond x none (pendingOf b at j)) j t (λ q. rw q absent) (λ q. refl))
+            raised-last);
       }
 
-  pub commit-pending : t < 64 → getD (s .status) t 0 ≡ 1 → Next (λ c. t < c) s (entered (withLast s l) t) (commitTerm t (view s))
-  unfolding commitTerm logOf pendingOf
-  commit-pending lt e =
+  pub commit-room : t < 64 → has (pendingSet b at) t ≡ true → ones (loggedSet (risen b at m) at) < 64
+  commit-room lt held-now =
+      entered-room 64 (risen b at m) at t (ones (loggedSet (risen b at m) at)) (pendingSet (risen b at m) at - 2 ^ t) (bitOr (loggedSet (risen b at m) at) (2 ^ t))
+      (raised-kept 64 lt k) (ap (λ (x : ℕ). has x t) (risen-other b at m (at + 192) (omega arith)) ∙ held-now) lt refl refl refl
+
+  pub commit-pending : (e p l : ℕ) → t < 64 → has (pendingSet b at) t ≡ true → e ≡ ones (loggedSet (risen b at m) at) →
+      p ≡ pendingSet b at - 2 ^ t → l ≡ bitOr (loggedSet (risen b at m) at) (2 ^ t) →
+      Next (λ c. t < c) at b (entered (risen b at m) at t e p l) (commitTerm t (view b at))
+  unfolding commitTerm
+  commit-pending e p l lt held-now is-e is-p is-l =
+      let same = risen-other b at m (at + 192) (omega arith) in
+      let here : has (pendingSet (risen b at m) at) t ≡ true = ap (λ (x : ℕ). has x t) same ∙ held-now in
+      let rest : p ≡ pendingSet (risen b at m) at - 2 ^ t = is-p ∙ ap (λ (x : ℕ). x - 2 ^ t) (sym same) in
       let now = raised-kept 64 lt k in
       record {
-        kept = λ c h g. entered-kept c (withLast s l) t (raised-kept c h g) e h;
+        wrote = wrote-then raised-wrote (entered-wrote 64 (risen b at m) at t e p l now here lt is-e rest is-l);
+        kept = λ c h g. entered-kept c (risen b at m) at t e p l (raised-kept c h g) here h is-e rest is-l;
         is =
-            rw (k .logged-is t, ap (λ (x : ℕ). eqb x 2) e)
-            (state-is (entered-view 64 (withLast s l) t now e lt) (entered-pending 64 (withLast s l) t now e lt) is-last);
+            rw (k .logged-is t, free)
+            (state-is
+            (entered-view 64 (risen b at m) at t e p l now here lt is-e rest is-l ∙
+            ap₂ (λ (x : List Entry) (o : Option Pending). x ++ entry t o) (risen-log b at m k) (risen-pending b at m k t))
+            (λ j.
+            entered-pending 64 (risen b at m) at t e p l now here lt is-e rest is-l j ∙
+            ap (λ (o : Option Pending). cond (eqb j t) none o) (risen-pending b at m k j))
+            (entered-last 64 (risen b at m) at t e p l now here lt is-e rest is-l ∙ raised-last));
       }
 
--- ---- a turn of `commit_up_to`: the terms below t are committed, and t is next
+-- ---- a commit up to u
 
-module _ (s₀ s : NodePaxosState) (u t newly : ℕ) (k : Kept 64 s) (so-far : Next (λ c. u < c) s₀ s (commitBelow t (view s₀))) (newly-is : newly ≡ termSet (newlyBelow t (logOf s₀))) where
+-- the terms up to u that are not logged
+abbrev pub newlySet : ℕ → ℕ → ℕ
+newlySet u s = setOf 64 (λ (t : ℕ). leb t u) - bitAnd (setOf 64 (λ (t : ℕ). leb t u)) s
+
+pub newly-word : (u s : ℕ) → u < 64 → newlySet u s < 2 ^ suc u
+newly-word u s h = omega (arith, reach-is u h, pow-pos (suc u))
+
+pub has-newly : (u s t : ℕ) → t < 64 → has (newlySet u s) t ≡ (leb t u && not (has s t))
+has-newly u s t h =
+    has-minus (setOf 64 (λ (k : ℕ). leb k u)) s t ∙ ap (λ (b : Bool). b && not (has s t)) (has-reach u t h)
+
+pub newly-is : {b : List ℕ} {at : ℕ} (u : ℕ) → Kept 64 b at → u < 64 → newlySet u (loggedSet b at) ≡ termSet (newlyUpTo u (logOf b at))
+unfolding has
+newly-is {b} {at} u k h =
+    set-ext 64 (lt-of-lt-of-le (newly-word u (loggedSet b at) h) (pow-mono {i = suc u} {j = 64} h))
+    (lt-of-lt-of-le (newly-lt (suc u) (logOf b at)) (pow-mono {i = suc u} {j = 64} h))
+    (λ t g.
+    has-newly u (loggedSet b at) t g ∙
+    ap (λ (x : Bool). leb t u && not x) (sym (k .logged-is t)) ∙
+    bits t (logged t (logOf b at)) (either (leb t u)) ∙
+    ap (λ (x : ℕ). eqb x 1) (sym (newly-bit (suc u) t (logOf b at))))
+  where
+    bit : (x : Bool) → not x ≡ eqb (cond x 0 1) 1
+    bit true = refl
+    bit false = refl
+
+    bits : (t : ℕ) (x : Bool) → (leb t u ≡ true) ⊎ (leb t u ≡ false) → (leb t u && not x) ≡ eqb (cond (ltb t (suc u)) (cond x 0 1) 0) 1
+    bits t x (inl e) = rw (e, lt-ltb t (suc u) (omega (arith, leb-true t u e))) (bit x)
+    bits t x (inr e) = rw (e, le-ltb t (suc u) (omega (arith, leb-false t u e)))
+
+-- The terms below t are committed, and t is next.
+module _
+    (b₀ b : List ℕ) (at u t : ℕ) (k₀ : Kept 64 b₀ at) (lt : u < 64)
+    (so-far : Next (λ c. u < c) at b₀ b (commitBelow t (view b₀ at))) where
+  pub turn-kept : Kept 64 b at
+  turn-kept = so-far .kept 64 lt k₀
+
   -- t was logged at the start exactly if it is now
-  was-logged : logged t (logOf s₀) ≡ eqb (getD (s .status) t 0) 2
+  pub was-logged : has (loggedSet b at) t ≡ has (loggedSet b₀ at) t
   was-logged =
-      sym (below-other t t (view s₀) (le-refl t)) ∙ sym (ap (λ (x : State). logged t (x .log)) (so-far .is)) ∙
-      k .logged-is t
+      sym (turn-kept .logged-is t) ∙ ap (λ (x : State). logged t (x .log)) (so-far .is) ∙
+      below-other t t (view b₀ at) (le-refl t) ∙ k₀ .logged-is t
 
-  pub turn-logged : getD (s .status) t 0 ≡ 2 → Next (λ c. u < c) s₀ s (commitBelow (t + 1) (view s₀)) × (newly ≡ termSet (newlyBelow (t + 1) (logOf s₀)))
-  turn-logged e = (
-    record {
-      kept = so-far .kept;
-      is = commit-logged t k e ∙ ap (commitTerm t) (so-far .is) ∙ sym (commit-next t (view s₀));
-    },
-    newly-is ∙ ap termSet (sym (newly-same t (logOf s₀) (was-logged ∙ ap (λ (x : ℕ). eqb x 2) e))),
-  )
+  pub turn-logged : has (loggedSet b₀ at) t ≡ true → Next (λ c. u < c) at b₀ b (commitBelow (t + 1) (view b₀ at))
+  unfolding commitTerm
+  turn-logged e =
+      let same : view b at ≡ commitTerm t (view b at) = rw (turn-kept .logged-is t, was-logged, e) in
+      record {
+        wrote = so-far .wrote;
+        kept = so-far .kept;
+        is = same ∙ ap (commitTerm t) (so-far .is) ∙ sym (commit-next t (view b₀ at));
+      }
 
-  pub turn-new : (r : NodePaxosState) → t ≤ u → (getD (s .status) t 0 ≡ 2 → ⊥) → Next (λ c. t < c) s r (commitTerm t (view s)) →
-      Next (λ c. u < c) s₀ r (commitBelow (t + 1) (view s₀)) × (newly + 2 ^ t ≡ termSet (newlyBelow (t + 1) (logOf s₀)))
-  turn-new r h n e = (
-    record {
-      kept = λ c p g. e .kept c (omega arith) (so-far .kept c p g);
-      is = e .is ∙ ap (commitTerm t) (so-far .is) ∙ sym (commit-next t (view s₀));
-    },
-    ap (λ (x : ℕ). x + 2 ^ t) newly-is ∙
-        sym (newly-more t (logOf s₀) (was-logged ∙ ne-eqb (getD (s .status) t 0) 2 n)),
-  )
+  pub turn-new : (r : List ℕ) → t ≤ u → Next (λ c. t < c) at b r (commitTerm t (view b at)) →
+      Next (λ c. u < c) at b₀ r (commitBelow (t + 1) (view b₀ at))
+  turn-new r h e =
+      record {
+        wrote = wrote-then (so-far .wrote) (e .wrote);
+        kept = λ c p g. e .kept c (omega arith) (so-far .kept c p g);
+        is = e .is ∙ ap (commitTerm t) (so-far .is) ∙ sym (commit-next t (view b₀ at));
+      }
 
-  pub newly-fits : t < 64 → newly + 2 ^ t < 2 ^ 64
-  newly-fits h =
-      omega (arith, newly-is, newly-lt t (logOf s₀), pow-suc 2 t, pow-mono {i = suc t} {j = 64} h)
+  -- no term is left
+  pub turn-end : t ≤ suc u → ((j : ℕ) → t ≤ j → has (newlySet u (loggedSet b₀ at)) j ≡ false) →
+      Next (λ c. u < c) at b₀ b (commitUpTo u (view b₀ at))
+  turn-end h none-left =
+      let d = suc u - t in
+      let e : t + d ≡ suc u = omega arith in
+      record {
+        wrote = so-far .wrote;
+        kept = so-far .kept;
+        is =
+            so-far .is ∙
+            sym (commit-past d t (view b₀ at) (λ j g l. k₀ .logged-is j ∙ in-log j g (omega arith))) ∙
+            ap (λ (n : ℕ). commitBelow n (view b₀ at)) e;
+      }
+    where
+      was-in : (x : Bool) → (true && not x) ≡ false → x ≡ true
+      was-in true q = refl
+      was-in false q = absurd (true≢false q)
+
+      in-log : (j : ℕ) → t ≤ j → j ≤ u → has (loggedSet b₀ at) j ≡ true
+      in-log j g l =
+          was-in (has (loggedSet b₀ at) j)
+          (ap (λ (x : Bool). x && not (has (loggedSet b₀ at) j)) (sym (le-leb j u l)) ∙
+          sym (has-newly u (loggedSet b₀ at) j (omega arith)) ∙ none-left j g)
 
 -- ---- a term becomes pending
 
@@ -110,86 +187,50 @@ pub data-code : (d : Data) → dataBelow d → dataOf (codeOf d) ≡ d
 data-code Data.Empty h = refl
 data-code (Data.Of u) h = rw (lt-ltb (u .0) 64 h)
 
-pub free : {c : ℕ} {s : NodePaxosState} (t : ℕ) → Kept c s → held t (view s) ≡ false → getD (s .status) t 0 ≡ 0
-free {c} {s} t k e =
-    three (λ (x : ℕ). cond (eqb x 0) false true ≡ false → x ≡ 0) (λ h. refl) (λ h. absurd (true≢false h)) (λ h. absurd (true≢false h)) (getD (s .status) t 0) (k .status-is t) (sym (status-held k t) ∙ e)
+-- a term that is not held is in neither set
+pub free-logged : {c : ℕ} {b : List ℕ} {at : ℕ} (t : ℕ) → Kept c b at → held t (view b at) ≡ false → has (loggedSet b at) t ≡ false
+free-logged {c} {b} {at} t k e = or-left (has (loggedSet b at) t) (has (pendingSet b at) t) (sym (held-is k t) ∙ e)
 
-pub hold-next : (s : NodePaxosState) (t v m : ℕ) (d : Data) → Kept 64 s → t < 64 → dataOf m ≡ d → held t (view s) ≡ false → Next (λ c. t < c) s (heldAt s t v m) (hold t v d (view s))
+pub hold-next : (b : List ℕ) (at t v m p : ℕ) (d : Data) → Kept 64 b at → t < 64 → dataOf m ≡ d → held t (view b at) ≡ false →
+    p ≡ bitOr (pendingSet b at) (2 ^ t) → Next (λ c. t < c) at b (heldAt b at t v m p) (hold t v d (view b at))
 unfolding hold
-hold-next s t v m d k lt q e =
-    let is0 = free t k e in
+hold-next b at t v m p d k lt q e more =
+    let absent = free-logged t k e in
     record {
-      kept = λ c h g. held-kept c s t v m g is0 h;
+      wrote = held-wrote 64 b at t v m p k absent lt more;
+      kept = λ c h g. held-kept c b at t v m p g absent h more;
       is =
-          state-is (held-log 64 s t v m k is0 lt)
-          (λ j. held-pending 64 s t v m k is0 lt j ∙
-          ap (λ (x : Data). put t (some (record { votes = v; payload = x })) (pendingOf s) j) q)
-          refl;
+          state-is (held-log 64 b at t v m p k absent lt more)
+          (λ j. held-pending 64 b at t v m p k absent lt more j ∙
+          ap (λ (x : Data). put t (some (record { votes = v; payload = x })) (pendingOf b at) j) q)
+          (held-last 64 b at t v m p k absent lt more);
     }
 
-pub hold-held : {c : ℕ} {s : NodePaxosState} (t v : ℕ) (d : Data) → Kept c s → (getD (s .status) t 0 ≡ 0 → ⊥) → view s ≡ holdNew t v d (view s)
+pub hold-held : (t v : ℕ) (d : Data) (x : State) → held t x ≡ true → x ≡ holdNew t v d x
 unfolding holdNew
-hold-held {c} {s} t v d k n = rw (status-held k t, ne-eqb (getD (s .status) t 0) 0 n)
+hold-held t v d x e = rw e
 
-pub held-free : {c : ℕ} {s : NodePaxosState} (t : ℕ) → Kept c s → getD (s .status) t 0 ≡ 0 → held t (view s) ≡ false
-held-free {c} {s} t k e = status-held k t ∙ ap (λ (x : ℕ). cond (eqb x 0) false true) e
-
-pub hold-free : {c : ℕ} {s : NodePaxosState} (t v : ℕ) (d : Data) → Kept c s → getD (s .status) t 0 ≡ 0 → hold t v d (view s) ≡ holdNew t v d (view s)
+pub hold-free : (t v : ℕ) (d : Data) (x : State) → held t x ≡ false → hold t v d x ≡ holdNew t v d x
 unfolding holdNew
-hold-free t v d k e = rw (held-free t k e)
+hold-free t v d x e = rw e
 
--- ---- votes
-
-voted-at : (b w : Bool) (v f : ℕ) (d : Data) →
-    cond b (some (record { votes = cond (w && b) (union v f) v; payload = d })) none ≡
-    voted w f (cond b (some (record { votes = v; payload = d })) none)
-voted-at true true v f d = refl
-voted-at true false v f d = refl
-voted-at false w v f d = refl
-
-pub merge-next : (s : NodePaxosState) (u f : ℕ) (v : List ℕ) → length v ≡ 64 →
-    ((j : ℕ) → getD v j 0 ≡ votesAfter (getD (s .status) j 0) (leb j u) (getD (s .votes) j 0) f) →
-    Next (λ c. Unit {0}) s (withVotes s v) (mergeVotesUpTo u f (view s))
-unfolding mergeVotesUpTo logOf pendingOf
-merge-next s u f v h e =
-    record {
-      kept = λ c p k. votes-kept v h k;
-      is =
-          state-is refl
-          (λ j. rw (e j) (voted-at (eqb (getD (s .status) j 0) 1) (leb j u) (getD (s .votes) j 0) f (dataOf (getD (s .payload) j 0))))
-          refl;
-    }
-
--- the votes after a pass over all 64 terms
-pub passed : {s : NodePaxosState} {c : ℕ} (u f : ℕ) (v : List ℕ) → Kept c s →
-    ((j : ℕ) → getD v j 0 ≡ cond (ltb j 64) (votesAfter (getD (s .status) j 0) (leb j u) (getD (s .votes) j 0) f) (getD (s .votes) j 0)) →
-    (j : ℕ) → getD v j 0 ≡ votesAfter (getD (s .status) j 0) (leb j u) (getD (s .votes) j 0) f
-passed {s} u f v k e j = e j ∙ go (ltb j 64) refl
-  where
-    go : (b : Bool) → ltb j 64 ≡ b → cond b (votesAfter (getD (s .status) j 0) (leb j u) (getD (s .votes) j 0) f) (getD (s .votes) j 0) ≡ votesAfter (getD (s .status) j 0) (leb j u) (getD (s .votes) j 0) f
-    go true h = refl
-    go false h =
-        let past : length (s .status) ≤ j = omega (arith, k .status-length, ltb-false j 64 h) in
-        rw (List·getD-eq-default (s .status) 0 past, and-false)
+-- a term from the counter on is not held
+pub held-free : {c : ℕ} {b : List ℕ} {at : ℕ} (t : ℕ) → Kept c b at → c ≤ t → held t (view b at) ≡ false
+held-free t k h = held-is k t ∙ ap₂ _||_ (k .logged-below t h) (k .pending-below t h)
 
 -- ---- recovery
 
-pub recovery-view : {c : ℕ} {s : NodePaxosState} (t : ℕ) → Kept c s → (t ≡ 0 → ⊥) →
-    recovery t (view s) ≡
-    cond (eqb (getD (s .status) t 0) 0) Piggyback.None (Piggyback.Of (record { 0 = t }) (dataOf (getD (s .payload) t 0)))
+pub recovery-view : {c : ℕ} {b : List ℕ} {at : ℕ} (t : ℕ) → Kept c b at → (t ≡ 0 → ⊥) →
+    recovery t (view b at) ≡ cond (held t (view b at)) (Piggyback.Of (record { 0 = t }) (dataAt b at t)) Piggyback.None
 unfolding recovery logOf pendingOf
 recovery-view zero k n = absurd (n refl)
-recovery-view {c} {s} (suc t) k n =
-    rw (find-entries (s .payload) (suc t) (take (s .count) (s .log)), k .logged-is (suc t))
-    (three
-    (λ (x : ℕ).
-    reply (suc t) (dataIn (cond (eqb x 2) (some (dataOf (getD (s .payload) (suc t) 0))) none) (pendingAt x (getD (s .votes) (suc t) 0) (getD (s .payload) (suc t) 0))) ≡
-    cond (eqb x 0) Piggyback.None (Piggyback.Of (record { 0 = suc t }) (dataOf (getD (s .payload) (suc t) 0))))
-    refl refl refl (getD (s .status) (suc t) 0) (k .status-is (suc t)))
-
--- ---- the first state
-
-pub zeros : (n t : ℕ) → _≡_ {A = ℕ} (getD (replicate n 0) t 0) 0
-zeros zero t = refl
-zeros (suc n) zero = refl
-zeros (suc n) (suc t) = zeros n t
+recovery-view {c} {b} {at} (suc t) k n =
+    rw (find-by-term (dataAt b at) (suc t) (ones (loggedSet b at)) (entryAt b at) (λ j. refl))
+    (go (logged (suc t) (logOf b at)) (has (pendingSet b at) (suc t)))
+  where
+    go : (x y : Bool) →
+        reply (suc t) (dataIn (cond x (some (dataAt b at (suc t))) none) (cond y (some (record { votes = votesAt b at (suc t); payload = dataAt b at (suc t) })) none)) ≡
+        cond (x || isSome (cond y (some (record { votes = votesAt b at (suc t); payload = dataAt b at (suc t) })) none)) (Piggyback.Of (record { 0 = suc t }) (dataAt b at (suc t))) Piggyback.None
+    go true y = refl
+    go false true = refl
+    go false false = refl

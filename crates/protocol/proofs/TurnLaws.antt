@@ -1,67 +1,72 @@
 -- The laws of the two turns, by name. For the initiator, the term of the counter is not held before its turn
 -- (`counter-free` says so of a state that is kept). Assumes nothing.
-use Prim.Native.Nat.{ℕ, zero, suc, _<_, _≤_}
+use Prim.Native.Nat.{ℕ, zero, suc, _^_, _<_}
 use mathlib.Core.Bool.{Bool, true, false, cond}
 use mathlib.Core.List.{List, [], _∷_, map}
 use mathlib.Core.Option.{Option, none, some}
 use mathlib.Core.Path.{_≡_, refl, sym, ap, _∙_}
 use native.Mathlib.Nat.{le-refl}
-use borrow.Author.Tests.{eqb-true}
 use native.Mathlib.Omega.{arith}
-use lib.ListN.{length, getD, take, length-map}
-use lib.Seq.{length-take-le}
-use Rattle.protocol.proofs.Logs.{tally-le, tally-full}
+use lib.Bits.{bitOr, or-lt}
+use lib.Count.{ones, ones-le}
+use lib.ListN.{length}
+use lib.Pow.{pow-lt}
+use Rattle.network.specs.Graph.{has}
+use Rattle.network.specs.Table.{tabulate}
+use Rattle.network.proofs.Tables.{length-tabulate}
 use Rattle.phy.specs.declared.packet.Data.{Data}
 use Rattle.phy.specs.declared.packet.Piggyback.{Piggyback}
 use Rattle.phy.specs.declared.packet.Packet.{Packet}
-use Rattle.protocol.specs.declared.paxos.NodePaxosState.{NodePaxosState}
 use Rattle.protocol.specs.Paxos.{Entry, Pending, State, logged, held, find, dataIn, reply, recovery}
 use Rattle.protocol.specs.Turns.{currentTerm, proposalData, announce, initiatorTurn, takeVotes, participantTurn}
-use Rattle.protocol.specs.View.{entryOf, logOf, pendingOf, view, Kept}
+use Rattle.protocol.specs.View.{loggedSet, termAt, entryAt, logOf, view, Kept}
 use Rattle.protocol.specs.Growth.{Extends, Rises, Stands, Apart, dataFor, ownPending, ownLog, Own, ownData, ownBack, OwnPacket}
 use Rattle.protocol.proofs.Places.{same-or}
+use Rattle.protocol.proofs.Words.{in-word, ones-with}
+use Rattle.protocol.proofs.Frame.{logged-word}
+use Rattle.protocol.proofs.Kept.{pending-none}
 use Rattle.protocol.proofs.Steps.{held-free}
 use Rattle.protocol.proofs.Idempotent.{extends-refl, rises-refl}
 use Rattle.protocol.proofs.Laws.{Keeps, AskData, AskBack, Any, OwnD, participant-keeps, votes-keeps, initiator-keeps, log-extends, last-rises, votes-stand, kept-apart, kept-own}
 
 -- ---- what a kept state says
 
-pub counter-free : {c : ℕ} {s : NodePaxosState} → Kept c s → held c (view s) ≡ false
-counter-free {c} {s} k = held-free c k (k .below c (le-refl c))
+pub counter-free : {c : ℕ} {b : List ℕ} {at : ℕ} → Kept c b at → held c (view b at) ≡ false
+counter-free {c} k = held-free c k (le-refl c)
 
-pub view-apart : {c : ℕ} {s : NodePaxosState} → Kept c s → Apart (view s)
-unfolding pendingOf
-view-apart {c} {s} k =
+pub view-apart : {c : ℕ} {b : List ℕ} {at : ℕ} → Kept c b at → Apart (view b at)
+view-apart {c} {b} {at} k =
     record {
       distinct = k .distinct;
-      apart = λ t h.
-          let e = eqb-true (getD (s .status) t 0) 2 (sym (k .logged-is t) ∙ h) in
-          rw e;
+      apart = λ t h. pending-none b at t (k .apart t (sym (k .logged-is t) ∙ h));
     }
 
-pub kept-count : {c : ℕ} {s : NodePaxosState} → Kept c s → s .count ≤ 64
-kept-count {c} {s} k = omega (arith, k .count-is, tally-le (s .status), k .status-length)
-
--- the terms of the log are those that `log` begins with
-pub log-terms : (s : NodePaxosState) → map (λ e. e .term) (view s .log) ≡ take (s .count) (s .log)
-unfolding logOf
-log-terms s = go (take (s .count) (s .log))
+-- the terms of the log stand in its places
+pub log-terms : (b : List ℕ) (at : ℕ) → map (λ e. e .term) (view b at .log) ≡ tabulate (ones (loggedSet b at)) (termAt b at)
+unfolding logOf tabulate
+log-terms b at = go (ones (loggedSet b at)) (entryAt b at)
   where
-    go : (l : List ℕ) → map (λ e. e .term) (map (entryOf (s .payload)) l) ≡ l
-    go [] = refl
-    go (x ∷ l) = ap (λ (m : List ℕ). x ∷ m) (go l)
+    go : (n : ℕ) (f : ℕ → Entry) → map (λ e. e .term) (tabulate n f) ≡ tabulate n (λ (k : ℕ). f k .term)
+    go zero f = refl
+    go (suc n) f = ap (λ (m : List ℕ). f zero .term ∷ m) (go n (λ (k : ℕ). f (suc k)))
 
-pub log-count : {c : ℕ} {s : NodePaxosState} → Kept c s → length (view s .log) ≡ s .count
+pub log-count : (b : List ℕ) (at : ℕ) → length (view b at .log) ≡ ones (loggedSet b at)
 unfolding logOf
-log-count {c} {s} k =
-    length-map (take (s .count) (s .log)) (entryOf (s .payload)) ∙
-    length-take-le (s .count) (s .log) (omega (arith, kept-count k, k .log-length))
+log-count b at = length-tabulate (ones (loggedSet b at)) (entryAt b at)
 
 -- a log as long as the counter holds every term below it
-pub log-full : {c : ℕ} {s : NodePaxosState} → Kept c s → s .count ≡ c → (t : ℕ) → t < c → logged t (view s .log) ≡ true
-log-full {c} {s} k e t h =
-    k .logged-is t ∙
-    tally-full (s .status) c t (omega (arith, k .status-length, k .room)) (k .below) (sym (k .count-is) ∙ e) h
+pub log-full : {c : ℕ} {b : List ℕ} {at : ℕ} → Kept c b at → ones (loggedSet b at) ≡ c → (t : ℕ) → t < c → logged t (view b at .log) ≡ true
+log-full {c} {b} {at} k e t h = k .logged-is t ∙ go (has (loggedSet b at) t) refl
+  where
+    go : (x : Bool) → has (loggedSet b at) t ≡ x → x ≡ true
+    go true q = refl
+    go false q =
+        absurd
+        (omega (
+          arith,
+          ones-with (loggedSet b at) t (logged-word k) (omega (arith, k .room)) q,
+          ones-le c (bitOr (loggedSet b at) (2 ^ t)) (or-lt c (loggedSet b at) (2 ^ t) (in-word c (loggedSet b at) (k .logged-below)) (pow-lt h)),
+        ))
 
 -- ---- a participant's turn
 

@@ -1,7 +1,7 @@
 -- What is right for the crate `protocol`.
 --     Paxos    a node's state in document 01's words, and what is done with it
 --     Turns    the initiator's turn and a participant's
---     View     the state that the code's arrays stand for, and what holds of them
+--     View     the state that a node's numbers stand for, and what holds of them
 --     Growth   how a state changes in a turn; terms that carry their own data
 pub mod Paxos
 pub mod Turns

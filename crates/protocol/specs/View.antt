@@ -1,23 +1,26 @@
--- The state that the code's arrays stand for, and what holds of them between the turns.
-use Prim.Native.Nat.{ℕ, _+_, _<_, _≤_}
-use mathlib.Core.Bool.{Bool, false, cond, _&&_}
-use mathlib.Core.List.{List, [], _∷_, map}
+-- The state that a node's numbers stand for, and what holds of them between the turns. A node has 195 numbers, from a place `at` on: by
+-- term its votes (64 of them) and the number of its data (64); the log (64); the set of the pending terms, that of the logged ones, and
+-- one more than the last accepted term, 0 for none.
+use Prim.Native.Nat.{ℕ, zero, suc, _+_, _<_, _≤_}
+use mathlib.Core.Bool.{Bool, true, false, cond}
+use mathlib.Core.List.{List, [], _∷_}
 use mathlib.Core.Option.{Option, none, some}
 use mathlib.Core.Path.{_≡_}
-use lib.Dec.{eqb, ltb}
-use lib.ListN.{length, getD, take}
+use lib.Count.{ones}
+use lib.Dec.{ltb}
+use lib.ListN.{length, getD}
+use Rattle.network.specs.Graph.{has}
+use Rattle.network.specs.Table.{tabulate}
 use Rattle.phy.specs.declared.packet.Data.{Data}
 use Rattle.phy.specs.declared.packet.LastAccepted.{LastAccepted}
 use Rattle.phy.specs.declared.packet.Piggyback.{Piggyback}
 use Rattle.phy.specs.declared.packet.Packet.{Packet}
-use Rattle.protocol.specs.declared.paxos.Committed.{Committed}
-use Rattle.protocol.specs.declared.paxos.NodePaxosState.{NodePaxosState}
 use Rattle.protocol.specs.declared.turns.Prepared.{Prepared}
 use Rattle.protocol.specs.declared.turns.Received.{Received}
-use Rattle.protocol.specs.Paxos.{Entry, Pending, State, union, logged, termSet}
+use Rattle.protocol.specs.Paxos.{Entry, Pending, State, logged, termSet}
 use Rattle.protocol.specs.Turns.{Initiated, Taken, counted}
 
--- the data that a number of `payload` stands for
+-- the data that a number stands for
 abbrev pub dataOf : ℕ → Data
 dataOf k = cond (ltb k 64) (Data.Of (record { 0 = k })) Data.Empty
 
@@ -26,70 +29,86 @@ abbrev pub codeOf : Data → ℕ
 codeOf Data.Empty = 64
 codeOf (Data.Of u) = u .0
 
--- what a term's status, votes and payload stand for in the map of pending terms
-abbrev pub pendingAt : ℕ → ℕ → ℕ → Option Pending
-pendingAt status v d = cond (eqb status 1) (some (record { votes = v; payload = dataOf d })) none
+-- the last accepted term that a number stands for
+abbrev pub lastOf : ℕ → LastAccepted
+lastOf zero = LastAccepted.None
+lastOf (suc t) = LastAccepted.At (record { 0 = t })
 
--- a term's votes after those of f are merged, where w says that it is within reach
-abbrev pub votesAfter : ℕ → Bool → ℕ → ℕ → ℕ
-votesAfter status w v f = cond (w && eqb status 1) (union v f) v
+abbrev pub votesAt : List ℕ → ℕ → ℕ → ℕ
+votesAt b at t = getD b (at + t) 0
 
-abbrev pub entryOf : List ℕ → ℕ → Entry
-entryOf payload t = record { term = t; payload = dataOf (getD payload t 0) }
+abbrev pub dataAt : List ℕ → ℕ → ℕ → Data
+dataAt b at t = dataOf (getD b (at + 64 + t) 0)
 
-unfoldable pub logOf : NodePaxosState → List Entry
-logOf s = map (entryOf (s .payload)) (take (s .count) (s .log))
+-- term k of the log
+abbrev pub termAt : List ℕ → ℕ → ℕ → ℕ
+termAt b at k = getD b (at + 128 + k) 0
 
-unfoldable pub pendingOf : NodePaxosState → ℕ → Option Pending
-pendingOf s t = pendingAt (getD (s .status) t 0) (getD (s .votes) t 0) (getD (s .payload) t 0)
+abbrev pub pendingSet : List ℕ → ℕ → ℕ
+pendingSet b at = getD b (at + 192) 0
 
--- the state that the arrays stand for
-abbrev pub view : NodePaxosState → State
-view s = record { log = logOf s; pending = pendingOf s; last = s .«last_accepted» }
+abbrev pub loggedSet : List ℕ → ℕ → ℕ
+loggedSet b at = getD b (at + 193) 0
+
+abbrev pub lastAt : List ℕ → ℕ → ℕ
+lastAt b at = getD b (at + 194) 0
+
+abbrev pub entryAt : List ℕ → ℕ → ℕ → Entry
+entryAt b at k = record { term = termAt b at k; payload = dataAt b at (termAt b at k) }
+
+-- as many terms as are in the set of logged ones
+unfoldable pub logOf : List ℕ → ℕ → List Entry
+logOf b at = tabulate (ones (loggedSet b at)) (entryAt b at)
+
+unfoldable pub pendingOf : List ℕ → ℕ → ℕ → Option Pending
+pendingOf b at t = cond (has (pendingSet b at) t) (some (record { votes = votesAt b at t; payload = dataAt b at t })) none
+
+-- the state that the numbers stand for
+abbrev pub view : List ℕ → ℕ → State
+view b at = record { log = logOf b at; pending = pendingOf b at; last = lastOf (lastAt b at) }
 
 -- no log repeats a term
 unfoldable pub Distinct : List Entry → Type 0
 Distinct [] = Unit {0}
 Distinct (e ∷ l) = (logged (e .term) l ≡ false) × Distinct l
 
--- how many terms have the status of a logged one
-unfoldable pub tally : List ℕ → ℕ
-tally [] = 0
-tally (x ∷ l) = cond (eqb x 2) 1 0 + tally l
-
 abbrev pub lastBelow : ℕ → LastAccepted → Type 0
 lastBelow c LastAccepted.None = Unit {0}
 lastBelow c (LastAccepted.At u) = u .0 < c
 
--- What holds of a node's state while the counter is c. A term has one status, so none is both logged and pending.
-pub record Kept (c : ℕ) (s : NodePaxosState) : Type 0 where
+-- What holds of a node's numbers while the counter is c.
+pub record Kept (c : ℕ) (b : List ℕ) (at : ℕ) : Type 0 where
   -- room for 64 terms
   pub room : c ≤ 64
-  pub status-length : length (s .status) ≡ 64
-  pub votes-length : length (s .votes) ≡ 64
-  pub payload-length : length (s .payload) ≡ 64
-  pub log-length : length (s .log) ≡ 64
-  -- the log is as long as there are logged terms
-  pub count-is : s .count ≡ tally (s .status)
-  -- the log holds the terms of status 2, each once
-  pub logged-is : (t : ℕ) → logged t (logOf s) ≡ eqb (getD (s .status) t 0) 2
-  pub distinct : Distinct (logOf s)
-  pub status-is : (t : ℕ) → getD (s .status) t 0 ≤ 2
+  pub fits : at + 195 ≤ length b
   -- terms are below the counter
-  pub below : (t : ℕ) → c ≤ t → getD (s .status) t 0 ≡ 0
-  pub last-below : lastBelow c (s .«last_accepted»)
+  pub pending-below : (t : ℕ) → c ≤ t → has (pendingSet b at) t ≡ false
+  pub logged-below : (t : ℕ) → c ≤ t → has (loggedSet b at) t ≡ false
+  pub last-below : lastAt b at ≤ c
+  -- no term is both logged and pending
+  pub apart : (t : ℕ) → has (loggedSet b at) t ≡ true → has (pendingSet b at) t ≡ false
+  -- the log holds the terms of its set, each once
+  pub logged-is : (t : ℕ) → logged t (logOf b at) ≡ has (loggedSet b at) t
+  pub distinct : Distinct (logOf b at)
 
--- r is the state x, and keeps what held of s, whatever the counter c is that P allows
-pub record Next (P : ℕ → Type 0) (s r : NodePaxosState) (x : State) : Type 0 where
-  pub kept : (c : ℕ) → P c → Kept c s → Kept c r
-  pub is : view r ≡ x
+-- only the numbers of the node at this place are other ones in b'
+pub record Wrote (at : ℕ) (b b' : List ℕ) : Type 0 where
+  pub size : length b' ≡ length b
+  pub before : (k : ℕ) → k < at → getD b' k 0 ≡ getD b k 0
+  pub behind : (k : ℕ) → at + 195 ≤ k → getD b' k 0 ≡ getD b k 0
+
+-- the node's state in b' is x, and what held in b holds again, whatever the counter c is that P allows
+pub record Next (P : ℕ → Type 0) (at : ℕ) (b b' : List ℕ) (x : State) : Type 0 where
+  pub wrote : Wrote at b b'
+  pub kept : (c : ℕ) → P c → Kept c b at → Kept c b' at
+  pub is : view b' at ≡ x
 
 -- a commit gave the state x, and l newly committed
-pub record Commits (P : ℕ → Type 0) (s : NodePaxosState) (r : Committed) (x : State) (l : List ℕ) : Type 0 where
-  pub next : Next P s (r .state) x
-  pub newly : r .newly ≡ termSet l
+pub record Commits (P : ℕ → Type 0) (at : ℕ) (b b' : List ℕ) (set : ℕ) (x : State) (l : List ℕ) : Type 0 where
+  pub next : Next P at b b' x
+  pub newly : set ≡ termSet l
 
--- data that `payload` has a number for
+-- data that has a number
 abbrev pub dataBelow : Data → Type 0
 dataBelow Data.Empty = Unit {0}
 dataBelow (Data.Of u) = u .0 < 64
@@ -112,24 +131,26 @@ pub record Carried (c : ℕ) (p : Packet) : Type 0 where
 -- ---- what the turns give
 
 -- the commit and the packet of the initiator's turn are those of x
-pub record Announces (s : NodePaxosState) (r : Prepared) (x : Initiated) : Type 0 where
-  pub next : Next (λ c. Unit {0}) s (r .state) (x .state)
+pub record Announces (at : ℕ) (b : List ℕ) (r : Prepared) (b' : List ℕ) (x : Initiated) : Type 0 where
+  pub next : Next (λ c. Unit {0}) at b b' (x .state)
   pub packet : r .packet ≡ x .packet
   pub newly : r .newly ≡ termSet (x .newly)
 
--- The initiator's turn gave x, and the counter is then `counted b c`. The packet's terms are below it if that of the
+-- The initiator's turn gave x, and the counter is then `counted p c`. The packet's terms are below it if that of the
 -- piggyback that was handed in is below c.
-pub record Initiates (b : Bool) (c : ℕ) (pb : Piggyback) (r : Prepared) (x : Initiated) : Type 0 where
-  pub kept : Kept (counted b c) (r .state)
-  pub state : view (r .state) ≡ x .state
+pub record Initiates (p : Bool) (c : ℕ) (pb : Piggyback) (at : ℕ) (b : List ℕ) (r : Prepared) (b' : List ℕ) (x : Initiated) : Type 0 where
+  pub wrote : Wrote at b b'
+  pub kept : Kept (counted p c) b' at
+  pub state : view b' at ≡ x .state
   pub packet : r .packet ≡ x .packet
   pub newly : r .newly ≡ termSet (x .newly)
-  pub carried : backBelow c pb → Carried (counted b c) (r .packet)
+  pub carried : backBelow c pb → Carried (counted p c) (r .packet)
 
 -- A participant's turn gave x, and its state is kept whatever the counter is that the packet's terms are below.
-pub record Takes (s : NodePaxosState) (p : Packet) (r : Received) (x : Taken) : Type 0 where
-  pub kept : (c : ℕ) → Carried c p → Kept c s → Kept c (r .state)
-  pub state : view (r .state) ≡ x .state
+pub record Takes (at : ℕ) (b : List ℕ) (p : Packet) (r : Received) (b' : List ℕ) (x : Taken) : Type 0 where
+  pub wrote : Wrote at b b'
+  pub kept : (c : ℕ) → Carried c p → Kept c b at → Kept c b' at
+  pub state : view b' at ≡ x .state
   pub newly : r .newly ≡ termSet (x .newly)
   pub recovered : r .recovery ≡ x .recovered
-  pub back : (c : ℕ) → Carried c p → Kept c s → backBelow c (r .recovery)
+  pub back : (c : ℕ) → Carried c p → Kept c b at → backBelow c (r .recovery)

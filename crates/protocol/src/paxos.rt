@@ -1,15 +1,19 @@
-// A node's Paxos state, after the source's protocol/paxos.rs. The source's `highest_seen_term` is
-// written there and read by nothing that shows, so it is left out.
+// A node's Paxos state, after the source's protocol/paxos.rs: 195 numbers of a lent slice, from the
+// place `at` on. By term its votes, a set of nodes (64 numbers), and the term whose data it carries,
+// or 64 for no data (64 numbers); the logged terms in commit order (64 numbers); the set of the
+// pending terms, the set of the logged ones, and one more than the last accepted term, 0 for none.
 use network::units::Term;
 use phy::packet::Data;
 use phy::packet::LastAccepted;
 use phy::packet::Piggyback;
 ghost use mathlib.Core.Path.{_≡_};
 ghost use mathlib.Core.Bool.{false};
-ghost use Prim.Native.Nat.{ℕ, _<_, _≤_};
-ghost use Rattle.protocol.specs.Paxos.{empty, union, raise, after, held, hold, holdNew, quorum, mergeVotesUpTo, greatestQuorum, commitTerm, commitUpTo, newlyUpTo, commitTo, newlyTo, detectGap, recovery};
+ghost use Prim.Native.Nat.{ℕ, suc, _+_, _≤_, _<_, max};
+ghost use lib.Dec.{leb};
+ghost use Rattle.network.specs.Graph.{has, setOf};
+ghost use Rattle.protocol.specs.Paxos.{union, size, majority, held, hold, holdNew, mergeVotesUpTo, greatestQuorum, commitTerm, commitUpTo, newlyUpTo, commitTo, newlyTo, detectGap, recovery};
 ghost use Rattle.protocol.specs.Turns.{votesOf};
-ghost use Rattle.protocol.specs.View.{view, Kept, Next, Commits, dataOf, codeOf, pendingAt, votesAfter, lastBelow, dataBelow};
+ghost use Rattle.protocol.specs.View.{view, Kept, Next, Commits, dataOf, codeOf, lastOf, lastBelow, dataBelow, loggedSet};
 
 // A term that is missing, or none.
 pub enum Gap {
@@ -17,44 +21,35 @@ pub enum Gap {
     At(Term),
 }
 
-// By term: `status` is 0 for a term that the node doesn't hold, 1 for a pending one and 2 for a
-// logged one; `votes` is the set of nodes that voted for a pending term; `payload` is the term whose
-// data a held term carries, or 64 for no data. The first `count` places of `log` are the logged
-// terms in commit order.
-pub struct NodePaxosState {
-    pub status: [u8; 64],
-    pub votes: [u64; 64],
-    pub payload: [u8; 64],
-    pub log: [u8; 64],
-    pub count: usize,
-    pub last_accepted: LastAccepted,
-}
-
-// A state after a commit, and the set of terms that are newly committed.
-pub struct Committed {
-    pub state: NodePaxosState,
-    pub newly: u64,
-}
-
-// The number that stands for data in `payload`.
-fn code_of(d: Data) -> u8
-    requires { ⌜ dataBelow d ⌝ }
+// The number that stands for data.
+fn code_of(d: Data) -> u64
     ensures { λ r. ⌜ r ≡ codeOf d ⌝ }
 {
     match d {
         Data::Empty => 64,
-        Data::Of(t) => t.0 as u8,
+        Data::Of(t) => t.0,
     }
 }
 
-// The data that a number of `payload` stands for.
-fn data_of(k: u8) -> Data
+// The data that a number stands for.
+fn data_of(k: u64) -> Data
     ensures { λ r. ⌜ r ≡ dataOf k ⌝ }
 {
     if k < 64 {
-        Data::Of(Term(k as u64))
+        Data::Of(Term(k))
     } else {
         Data::Empty
+    }
+}
+
+// The last accepted term that a number stands for.
+pub fn last_of(k: u64) -> LastAccepted
+    ensures { λ r. ⌜ r ≡ lastOf k ⌝ }
+{
+    if k == 0 {
+        LastAccepted::None
+    } else {
+        LastAccepted::At(Term(k - 1))
     }
 }
 
@@ -65,255 +60,189 @@ pub fn joined(a: u64, b: u64) -> u64
     a | b
 }
 
-// The votes for a term after those of `bitmap` are merged, if it is pending and within reach.
-fn votes_after(status: u8, within: bool, votes: u64, bitmap: u64) -> u64
-    ensures { λ r. ⌜ r ≡ votesAfter status within votes bitmap ⌝ }
+// The set of the terms up to u.
+fn up_to(u: u64) -> u64
+    ensures { λ r. ⌜ r ≡ setOf 64 (λ (t : ℕ). leb t u) ⌝ }
 {
-    if within {
-        if status == 1 {
-            return joined(votes, bitmap);
-        }
+    if 63 <= u {
+        return 18446744073709551615;
     }
-    votes
+    (1u64 << (u + 1)) - 1
 }
 
-// Whether a term is pending and a majority of n nodes voted for it.
-fn has_quorum(status: u8, votes: u64, n: usize) -> bool
-    ensures { λ r. ⌜ ((d : ℕ) → r ≡ quorum n (pendingAt status votes d)) ⌝ }
+// Whether a term is pending or logged.
+fn is_held(states: &[u64], at: usize, term: Term) -> bool
+    requires { ⌜ Kept 64 (now states) at × (term .0 < 64) ⌝ }
+    ensures { λ r. ⌜ r ≡ held (term .0) (view (now (states .entry)) at) ⌝ }
 {
-    if status != 1 {
-        return false;
+    let t = term.0;
+    let all = states[at + 192] | states[at + 193];
+    (all >> t) % 2 == 1
+}
+
+// Merges votes into all pending terms up to the given one.
+pub fn merge_votes_up_to(states: &mut [u64], at: usize, up_to_term: Term, bitmap: u64)
+    requires { ⌜ Kept 64 (now states) at ⌝ }
+    ensures { λ _. ⌜ Next (λ c. Unit {0}) at (now (states .entry)) (now (states .exit)) (mergeVotesUpTo («up_to_term» .0) bitmap (view (now (states .entry)) at)) ⌝ }
+{
+    let reach = up_to(up_to_term.0);
+    let mut rest = states[at + 192] & reach;
+    let mut t = 0usize;
+    while rest != 0 {
+        if rest % 2 == 1 {
+            states[at + t] = joined(states[at + t], bitmap);
+        }
+        rest /= 2;
+        t += 1;
     }
+}
+
+// Whether so many votes are a majority of n nodes.
+fn is_majority(votes: u64, n: usize) -> bool
+    ensures { λ r. ⌜ r ≡ leb (majority n) (size votes) ⌝ }
+{
     let k = u64::count_ones(votes) as usize;
     n / 2 + 1 <= k
 }
 
-// The last accepted term after it has risen to `term`.
-fn raised(last: LastAccepted, term: Term) -> LastAccepted
-    ensures { λ r. ⌜ r ≡ raise (term .0) last ⌝ }
+// The greatest pending term that has a quorum, or none.
+pub fn greatest_quorum(states: &[u64], at: usize, n: usize) -> LastAccepted
+    requires { ⌜ Kept 64 (now states) at ⌝ }
+    ensures { λ r. ⌜ r ≡ greatestQuorum 64 n (view (now (states .entry)) at) ⌝ }
 {
-    match last {
-        LastAccepted::None => LastAccepted::At(term),
-        LastAccepted::At(u) => {
-            if term.0 <= u.0 {
-                LastAccepted::At(u)
-            } else {
-                LastAccepted::At(term)
-            }
-        }
-    }
-}
-
-// Where the search for a gap starts.
-fn gap_start(last: LastAccepted) -> u64
-    requires { ⌜ lastBelow 64 last ⌝ }
-    ensures { λ r. ⌜ r ≡ after last ⌝ }
-{
-    match last {
-        LastAccepted::None => 0,
-        LastAccepted::At(u) => u.0 + 1,
-    }
-}
-
-impl NodePaxosState {
-    pub fn new() -> NodePaxosState
-        ensures { λ r. ⌜ Kept 0 r × (view r ≡ empty) ⌝ }
-    {
-        NodePaxosState {
-            status: [0u8; 64],
-            votes: [0u64; 64],
-            payload: [64u8; 64],
-            log: [0u8; 64],
-            count: 0,
-            last_accepted: LastAccepted::None,
-        }
-    }
-
-    // Merges votes into all pending terms up to the given one.
-    pub fn merge_votes_up_to(self, up_to_term: Term, bitmap: u64) -> NodePaxosState
-        requires { ⌜ Kept 64 self ⌝ }
-        ensures { λ r. ⌜ Next (λ c. Unit {0}) self r (mergeVotesUpTo («up_to_term» .0) bitmap (view self)) ⌝ }
-    {
-        let u = up_to_term.0;
-        let status = self.status;
-        let mut votes = self.votes;
-        let mut t: usize = 0;
-        while t < 64 {
-            votes[t] = votes_after(status[t], t as u64 <= u, votes[t], bitmap);
-            t += 1;
-        }
-        let mut merged = self;
-        merged.votes = votes;
-        merged
-    }
-
-    // Whether a pending term has the votes of a majority of n nodes.
-    pub fn check_quorum(self, term: Term, n: usize) -> bool
-        requires { ⌜ Kept 64 self ⌝ }
-        ensures { λ r. ⌜ r ≡ quorum n (view self .pending (term .0)) ⌝ }
-    {
-        if 64 <= term.0 {
-            return false;
-        }
-        let t = term.0 as usize;
-        has_quorum(self.status[t], self.votes[t], n)
-    }
-
-    // The greatest pending term that has a quorum, or none.
-    pub fn greatest_quorum(self, n: usize) -> LastAccepted
-        ensures { λ r. ⌜ r ≡ greatestQuorum 64 n (view self) ⌝ }
-    {
-        let mut t: usize = 64;
-        while 0 < t {
-            t -= 1;
-            if has_quorum(self.status[t], self.votes[t], n) {
+    let pending = states[at + 192];
+    let mut t: usize = 64;
+    while 0 < t {
+        t -= 1;
+        if (pending >> t) % 2 == 1 {
+            if is_majority(states[at + t], n) {
                 return LastAccepted::At(Term(t as u64));
             }
         }
-        LastAccepted::None
     }
+    LastAccepted::None
+}
 
-    // Moves a term from pending to the log, unless it is logged; last accepted rises to it.
-    pub fn commit_term(self, term: Term) -> NodePaxosState
-        requires { ⌜ Kept 64 self × (term .0 < 64) ⌝ }
-        ensures { λ r. ⌜ Next (λ c. term .0 < c) self r (commitTerm (term .0) (view self)) ⌝ }
-    {
-        let t = term.0 as usize;
-        let held = self.status[t];
-        if held == 2 {
-            return self;
-        }
-        let old = self.last_accepted;
-        let last = raised(old, term);
-        let status = self.status;
-        let votes = self.votes;
-        let payload = self.payload;
-        let log = self.log;
-        let at = self.count;
-        let mut next = NodePaxosState {
-            status: status,
-            votes: votes,
-            payload: payload,
-            log: log,
-            count: at,
-            last_accepted: last,
-        };
-        if held == 1 {
-            next.status[t] = 2;
-            next.log[at] = t as u8;
-            next.count = at + 1;
-        }
-        next
-    }
+fn larger(a: u64, b: u64) -> u64
+    ensures { λ r. ⌜ r ≡ max a b ⌝ }
+{
+    if a < b { b } else { a }
+}
 
-    // Commits all terms up to and including `up_to`, with the set of those newly committed.
-    pub fn commit_up_to(self, up_to: Term) -> Committed
-        requires { ⌜ Kept 64 self × («up_to» .0 < 64) ⌝ }
-        ensures { λ r. ⌜ Commits (λ c. «up_to» .0 < c) self r (commitUpTo («up_to» .0) (view self)) (newlyUpTo («up_to» .0) (view self .log)) ⌝ }
-    {
-        let u = up_to.0;
-        let mut s = self;
-        let mut newly: u64 = 0;
-        let mut t: u64 = 0;
-        while t <= u {
-            let status = s.status[t as usize];
-            if status != 2 {
-                s = s.commit_term(Term(t));
-                newly += 1u64 << t;
-            }
-            t += 1;
-        }
-        Committed {
-            state: s,
-            newly: newly,
-        }
+// Moves a term that is not logged from pending to the log; last accepted rises to it.
+fn commit_term(states: &mut [u64], at: usize, term: Term)
+    requires { ⌜ Kept 64 (now states) at × ((term .0 < 64) × (has (loggedSet (now states) at) (term .0) ≡ false)) ⌝ }
+    ensures { λ _. ⌜ Next (λ c. term .0 < c) at (now (states .entry)) (now (states .exit)) (commitTerm (term .0) (view (now (states .entry)) at)) ⌝ }
+{
+    let t = term.0;
+    let pending = states[at + 192];
+    states[at + 194] = larger(states[at + 194], t + 1);
+    if (pending >> t) % 2 == 1 {
+        let logged = states[at + 193];
+        let end = u64::count_ones(logged) as usize;
+        states[at + 128 + end] = t;
+        states[at + 192] = pending - (1u64 << t);
+        states[at + 193] = logged | (1u64 << t);
     }
+}
 
-    // Commits up to a term, or nothing.
-    pub fn commit_to(self, last: LastAccepted) -> Committed
-        requires { ⌜ Kept 64 self × lastBelow 64 last ⌝ }
-        ensures { λ r. ⌜ Commits (λ c. lastBelow c last) self r (commitTo last (view self)) (newlyTo last (view self .log)) ⌝ }
-    {
-        match last {
-            LastAccepted::None => Committed {
-                state: self,
-                newly: 0,
-            },
-            LastAccepted::At(u) => self.commit_up_to(u),
+// Commits all terms up to and including `up_to`; answers the set of those newly committed.
+pub fn commit_up_to(states: &mut [u64], at: usize, last: Term) -> u64
+    requires { ⌜ Kept 64 (now states) at × (last .0 < 64) ⌝ }
+    ensures { λ r. ⌜ Commits (λ c. last .0 < c) at (now (states .entry)) (now (states .exit)) r (commitUpTo (last .0) (view (now (states .entry)) at)) (newlyUpTo (last .0) (view (now (states .entry)) at .log)) ⌝ }
+{
+    let reach = up_to(last.0);
+    let newly = reach - (reach & states[at + 193]);
+    let mut rest = newly;
+    let mut t = 0u64;
+    while rest != 0 {
+        if rest % 2 == 1 {
+            commit_term(states, at, Term(t));
         }
+        rest /= 2;
+        t += 1;
     }
+    newly
+}
 
-    // The first term after last accepted and below `up_to_term` that is neither logged nor pending.
-    pub fn detect_gap(self, up_to_term: Term) -> Gap
-        requires { ⌜ Kept 64 self × («up_to_term» .0 ≤ 64) ⌝ }
-        ensures { λ r. ⌜ r ≡ detectGap («up_to_term» .0) (view self) ⌝ }
-    {
-        let end = up_to_term.0;
-        let last = self.last_accepted;
-        let mut t = gap_start(last);
-        while t < end {
-            if self.status[t as usize] == 0 {
-                return Gap::At(Term(t));
-            }
-            t += 1;
-        }
-        Gap::None
+// Commits up to a term, or nothing.
+pub fn commit_to(states: &mut [u64], at: usize, last: LastAccepted) -> u64
+    requires { ⌜ Kept 64 (now states) at × lastBelow 64 last ⌝ }
+    ensures { λ r. ⌜ Commits (λ c. lastBelow c last) at (now (states .entry)) (now (states .exit)) r (commitTo last (view (now (states .entry)) at)) (newlyTo last (view (now (states .entry)) at .log)) ⌝ }
+{
+    match last {
+        LastAccepted::None => 0,
+        LastAccepted::At(u) => commit_up_to(states, at, u),
     }
+}
 
-    // A term that is neither logged nor pending becomes pending.
-    pub fn hold(mut self, term: Term, votes: u64, d: Data) -> NodePaxosState
-        requires { ⌜ Kept 64 self × ((term .0 < 64) × (dataBelow d × (held (term .0) (view self) ≡ false))) ⌝ }
-        ensures { λ r. ⌜ Next (λ c. term .0 < c) self r (hold (term .0) votes d (view self)) ⌝ }
-    {
-        let t = term.0 as usize;
-        self.status[t] = 1;
-        self.votes[t] = votes;
-        self.payload[t] = code_of(d);
-        self
+// The first term after last accepted and below `up_to_term` that is neither logged nor pending.
+pub fn detect_gap(states: &[u64], at: usize, up_to_term: Term) -> Gap
+    requires { ⌜ Kept 64 (now states) at × («up_to_term» .0 ≤ 64) ⌝ }
+    ensures { λ r. ⌜ r ≡ detectGap («up_to_term» .0) (view (now (states .entry)) at) ⌝ }
+{
+    let end = up_to_term.0;
+    let mut t = states[at + 194];
+    while t < end {
+        if !is_held(states, at, Term(t)) {
+            return Gap::At(Term(t));
+        }
+        t += 1;
     }
+    Gap::None
+}
 
-    // The same where the term may be held already, and then nothing is changed.
-    pub fn hold_new(self, term: Term, votes: u64, d: Data) -> NodePaxosState
-        requires { ⌜ Kept 64 self × ((term .0 < 64) × dataBelow d) ⌝ }
-        ensures { λ r. ⌜ Next (λ c. term .0 < c) self r (holdNew (term .0) votes d (view self)) ⌝ }
-    {
-        let t = term.0 as usize;
-        if self.status[t] != 0 {
-            return self;
-        }
-        self.hold(term, votes, d)
-    }
+// A term that is neither logged nor pending becomes pending.
+pub fn hold(states: &mut [u64], at: usize, term: Term, votes: u64, d: Data)
+    requires { ⌜ Kept 64 (now states) at × ((term .0 < 64) × (dataBelow d × (held (term .0) (view (now states) at) ≡ false))) ⌝ }
+    ensures { λ _. ⌜ Next (λ c. term .0 < c) at (now (states .entry)) (now (states .exit)) (hold (term .0) votes d (view (now (states .entry)) at)) ⌝ }
+{
+    let t = term.0 as usize;
+    states[at + t] = votes;
+    states[at + 64 + t] = code_of(d);
+    states[at + 192] = states[at + 192] | (1u64 << t);
+}
 
-    // The votes for a pending term, and no vote for any other.
-    pub fn votes_of(self, term: Term) -> u64
-        requires { ⌜ Kept 64 self ⌝ }
-        ensures { λ r. ⌜ r ≡ votesOf (view self .pending (term .0)) ⌝ }
-    {
-        if 64 <= term.0 {
-            return 0;
-        }
-        let t = term.0 as usize;
-        if self.status[t] != 1 {
-            return 0;
-        }
-        self.votes[t]
+// The same where the term may be held already, and then nothing is changed.
+pub fn hold_new(states: &mut [u64], at: usize, term: Term, votes: u64, d: Data)
+    requires { ⌜ Kept 64 (now states) at × ((term .0 < 64) × dataBelow d) ⌝ }
+    ensures { λ _. ⌜ Next (λ c. term .0 < c) at (now (states .entry)) (now (states .exit)) (holdNew (term .0) votes d (view (now (states .entry)) at)) ⌝ }
+{
+    if is_held(states, at, term) {
+        return;
     }
+    hold(states, at, term, votes, d);
+}
 
-    // What the node can send to one that misses a term: the term and its data, if it holds it.
-    pub fn recover(self, nack_term: Term) -> Piggyback
-        requires { ⌜ Kept 64 self ⌝ }
-        ensures { λ r. ⌜ r ≡ recovery («nack_term» .0) (view self) ⌝ }
-    {
-        if nack_term.0 == 0 {
-            return Piggyback::None;
-        }
-        if 64 <= nack_term.0 {
-            return Piggyback::None;
-        }
-        let t = nack_term.0 as usize;
-        if self.status[t] == 0 {
-            return Piggyback::None;
-        }
-        Piggyback::Of(nack_term, data_of(self.payload[t]))
+// The votes for a pending term, and no vote for any other.
+pub fn votes_of(states: &[u64], at: usize, term: Term) -> u64
+    requires { ⌜ Kept 64 (now states) at ⌝ }
+    ensures { λ r. ⌜ r ≡ votesOf (view (now (states .entry)) at .pending (term .0)) ⌝ }
+{
+    if 64 <= term.0 {
+        return 0;
     }
+    let t = term.0 as usize;
+    if (states[at + 192] >> t) % 2 == 0 {
+        return 0;
+    }
+    states[at + t]
+}
+
+// What the node can send to one that misses a term: the term and its data, if it holds it.
+pub fn recover(states: &[u64], at: usize, nack_term: Term) -> Piggyback
+    requires { ⌜ Kept 64 (now states) at ⌝ }
+    ensures { λ r. ⌜ r ≡ recovery («nack_term» .0) (view (now (states .entry)) at) ⌝ }
+{
+    if nack_term.0 == 0 {
+        return Piggyback::None;
+    }
+    if 64 <= nack_term.0 {
+        return Piggyback::None;
+    }
+    if !is_held(states, at, nack_term) {
+        return Piggyback::None;
+    }
+    let t = nack_term.0 as usize;
+    Piggyback::Of(nack_term, data_of(states[at + 64 + t]))
 }

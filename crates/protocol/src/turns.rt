@@ -1,8 +1,16 @@
 // A node's turns, after what the source's sim/paxos_pipeline.rs does with one node: `prepare_round`
 // with the initiator, `process_round` with each node that took part.
 use crate::paxos::Gap;
-use crate::paxos::NodePaxosState;
+use crate::paxos::commit_to;
+use crate::paxos::detect_gap;
+use crate::paxos::greatest_quorum;
+use crate::paxos::hold;
+use crate::paxos::hold_new;
 use crate::paxos::joined;
+use crate::paxos::last_of;
+use crate::paxos::merge_votes_up_to;
+use crate::paxos::recover;
+use crate::paxos::votes_of;
 use network::units::NodeId;
 use network::units::Term;
 use phy::packet::Data;
@@ -14,17 +22,15 @@ ghost use Rattle.protocol.specs.Paxos.{vote};
 ghost use Rattle.protocol.specs.Turns.{nack, counted, announce, initiatorTurn, takeData, takePiggyback, participantTurn};
 ghost use Rattle.protocol.specs.View.{view, Kept, Next, Carried, proposalBelow, backBelow, Announces, Initiates, Takes};
 
-// What the initiator's turn gives: its state, the packet, and the set of terms newly committed.
+// What the initiator's turn gives beside its state: the packet, and the set of terms newly committed.
 pub struct Prepared {
-    pub state: NodePaxosState,
     pub packet: Packet,
     pub newly: u64,
 }
 
-// What a participant's turn gives: its state, the set of terms newly committed, and the NACKed term
-// with its data if the node holds it.
+// What a participant's turn gives beside its state: the set of terms newly committed, and the NACKed
+// term with its data if the node holds it.
 pub struct Received {
-    pub state: NodePaxosState,
     pub newly: u64,
     pub recovery: Piggyback,
 }
@@ -59,7 +65,8 @@ fn before(counter: u64) -> u64
 
 // Commits up to the greatest pending quorum and builds the packet.
 fn announce(
-    s: NodePaxosState,
+    states: &mut [u64],
+    at: usize,
     node: NodeId,
     n: usize,
     current: Term,
@@ -67,85 +74,73 @@ fn announce(
     data: Data,
     piggyback: Piggyback,
 ) -> Prepared
-    requires { ⌜ Kept 64 s × (node .0 < 64) ⌝ }
-    ensures { λ r. ⌜ Announces s r (announce (node .0) n (current .0) (nack .0) «data» piggyback (view s)) ⌝ }
+    requires { ⌜ Kept 64 (now states) at × (node .0 < 64) ⌝ }
+    ensures { λ r. ⌜ Announces at (now (states .entry)) r (now (states .exit)) (announce (node .0) n (current .0) (nack .0) «data» piggyback (view (now (states .entry)) at)) ⌝ }
 {
-    let done = s.commit_to(s.greatest_quorum(n));
-    let after = done.state;
-    let last = after.last_accepted;
+    let newly = commit_to(states, at, greatest_quorum(states, at, n));
     let packet = Packet {
         current_term: current,
-        last_accepted_term: last,
-        flags_bitmap: joined(after.votes_of(current), vote_of(node)),
+        last_accepted_term: last_of(states[at + 194]),
+        flags_bitmap: joined(votes_of(states, at, current), vote_of(node)),
         nack_term: nack,
         sender: node,
         proposal_data: data,
         piggyback: piggyback,
     };
-    Prepared {
-        state: after,
-        packet: packet,
-        newly: done.newly,
-    }
+    Prepared { packet, newly }
 }
 
 // The initiator's turn: `counter` is the number of proposals made before it, `proposes` says whether
 // one is left to be made, and `piggyback` is what the round before it has set.
 pub fn initiator_turn(
-    s: NodePaxosState,
+    states: &mut [u64],
+    at: usize,
     node: NodeId,
     n: usize,
     counter: u64,
     proposes: bool,
     piggyback: Piggyback,
 ) -> Prepared
-    requires { ⌜ Kept counter s × ((counted proposes counter ≤ 64) × (node .0 < 64)) ⌝ }
-    ensures { λ r. ⌜ Initiates proposes counter piggyback r (initiatorTurn (node .0) n counter proposes piggyback (view s)) ⌝ }
+    requires { ⌜ Kept counter (now states) at × ((counted proposes counter ≤ 64) × (node .0 < 64)) ⌝ }
+    ensures { λ r. ⌜ Initiates proposes counter piggyback at (now (states .entry)) r (now (states .exit)) (initiatorTurn (node .0) n counter proposes piggyback (view (now (states .entry)) at)) ⌝ }
 {
-    let nack = nack_of(s.detect_gap(Term(counter)));
+    let nack = nack_of(detect_gap(states, at, Term(counter)));
     if proposes {
         let data = Data::Of(Term(counter));
-        let held = s.hold(Term(counter), vote_of(node), data);
-        return announce(held, node, n, Term(counter), nack, data, piggyback);
+        hold(states, at, Term(counter), vote_of(node), data);
+        return announce(states, at, node, n, Term(counter), nack, data, piggyback);
     }
-    announce(
-        s,
-        node,
-        n,
-        Term(before(counter)),
-        nack,
-        Data::Empty,
-        piggyback,
-    )
+    let current = Term(before(counter));
+    announce(states, at, node, n, current, nack, Data::Empty, piggyback)
 }
 
 // Received proposal data becomes pending.
-fn take_data(s: NodePaxosState, term: Term, votes: u64, d: Data) -> NodePaxosState
-    requires { ⌜ Kept 64 s × proposalBelow 64 (term .0) d ⌝ }
-    ensures { λ r. ⌜ Next (λ c. proposalBelow c (term .0) d) s r (takeData (term .0) votes d (view s)) ⌝ }
+fn take_data(states: &mut [u64], at: usize, term: Term, votes: u64, d: Data)
+    requires { ⌜ Kept 64 (now states) at × proposalBelow 64 (term .0) d ⌝ }
+    ensures { λ _. ⌜ Next (λ c. proposalBelow c (term .0) d) at (now (states .entry)) (now (states .exit)) (takeData (term .0) votes d (view (now (states .entry)) at)) ⌝ }
 {
     match d {
-        Data::Empty => s,
-        Data::Of(u) => s.hold_new(term, votes, Data::Of(u)),
+        Data::Empty => {}
+        Data::Of(u) => hold_new(states, at, term, votes, Data::Of(u)),
     }
 }
 
 // A piggyback's data becomes pending.
-fn take_piggyback(s: NodePaxosState, votes: u64, piggyback: Piggyback) -> NodePaxosState
-    requires { ⌜ Kept 64 s × backBelow 64 piggyback ⌝ }
-    ensures { λ r. ⌜ Next (λ c. backBelow c piggyback) s r (takePiggyback votes piggyback (view s)) ⌝ }
+fn take_piggyback(states: &mut [u64], at: usize, votes: u64, piggyback: Piggyback)
+    requires { ⌜ Kept 64 (now states) at × backBelow 64 piggyback ⌝ }
+    ensures { λ _. ⌜ Next (λ c. backBelow c piggyback) at (now (states .entry)) (now (states .exit)) (takePiggyback votes piggyback (view (now (states .entry)) at)) ⌝ }
 {
     match piggyback {
-        Piggyback::None => s,
-        Piggyback::Of(term, d) => s.hold_new(term, votes, d),
+        Piggyback::None => {}
+        Piggyback::Of(term, d) => hold_new(states, at, term, votes, d),
     }
 }
 
 // A participant's turn: what a node does with the packet that it holds after the flood. The flags
 // and then the own vote are merged in one pass, as their union.
-pub fn participant_turn(s: NodePaxosState, node: NodeId, packet: Packet) -> Received
-    requires { ⌜ Kept 64 s × (Carried 64 packet × (node .0 < 64)) ⌝ }
-    ensures { λ r. ⌜ Takes s packet r (participantTurn (node .0) packet (view s)) ⌝ }
+pub fn participant_turn(states: &mut [u64], at: usize, node: NodeId, packet: Packet) -> Received
+    requires { ⌜ Kept 64 (now states) at × (Carried 64 packet × (node .0 < 64)) ⌝ }
+    ensures { λ r. ⌜ Takes at (now (states .entry)) packet r (now (states .exit)) (participantTurn (node .0) packet (view (now (states .entry)) at)) ⌝ }
 {
     let current = packet.current_term;
     let last = packet.last_accepted_term;
@@ -155,15 +150,10 @@ pub fn participant_turn(s: NodePaxosState, node: NodeId, packet: Packet) -> Rece
     let piggyback = packet.piggyback;
     let own = vote_of(node);
     let seen = joined(flags, own);
-    let done = s.commit_to(last);
-    let committed = done.state;
-    let proposed = take_data(committed, current, flags, data);
-    let voted = proposed.merge_votes_up_to(current, seen);
-    let recovery = voted.recover(nack);
-    let next = take_piggyback(voted, own, piggyback);
-    Received {
-        state: next,
-        newly: done.newly,
-        recovery: recovery,
-    }
+    let newly = commit_to(states, at, last);
+    take_data(states, at, current, flags, data);
+    merge_votes_up_to(states, at, current, seen);
+    let recovery = recover(states, at, nack);
+    take_piggyback(states, at, own, piggyback);
+    Received { newly, recovery }
 }

@@ -8,16 +8,16 @@ use lib.ListN.{length, replicate, length-append, getD-replicate}
 use Rattle.network.proofs.Sets.{count-le}
 use Rattle.phy.specs.declared.node.Node.{Node}
 use Rattle.phy.specs.Node.{new, total}
-use Rattle.phy.specs.Slot.{Setup, at}
+use Rattle.phy.specs.Slot.{Setup, at, sumOf}
 use Rattle.phy.specs.Round.{Flooded, round}
-use Rattle.phy.proofs.Counts.{summed, all-slots, round-most, counted-round}
+use Rattle.phy.proofs.Counts.{all-slots, round-most, counted-round}
 use Rattle.phy.proofs.Due.{Due, due-none, due-round, due-count}
 use Rattle.phy.proofs.Tries.{Tallied, tallied-none, tallied-then, successes-most}
 use Rattle.protocol.specs.Paxos.{empty}
 use Rattle.text.specs.declared.listing.Summary.{Summary}
 use Rattle.sim.specs.Round.{Prepared, stateOf, recorded, initiatorOf, prepareRound, processRound}
 use Rattle.sim.specs.Run.{Given, Past, Running, begin, setupOf, runRound, run}
-use Rattle.sim.specs.Entries.{sumOf, summaryOf}
+use Rattle.sim.specs.Entries.{summaryOf}
 use Rattle.sim.specs.ExactRounds.{givenFor}
 use Rattle.sim.specs.Bounds.{longest, Bounds, AllBounded}
 use Rattle.sim.proofs.Rounds.{limit-few, covered-few}
@@ -93,11 +93,6 @@ module _ (g : Given) (buffer : List ℕ) (pos : 1 ≤ g .interval) where
 
 -- ---- the summary
 
-sum-is : (f : Node → ℕ) (nodes : List Node) (n : ℕ) → sumOf f nodes n ≡ summed f nodes n
-unfolding sumOf summed
-sum-is f nodes zero = refl
-sum-is f nodes (suc n) = ap (λ (x : ℕ). x + f (at nodes n)) (sum-is f nodes n)
-
 -- rounding up gives at most one more
 shots-few : (slots interval : ℕ) → 1 ≤ interval → (slots + interval - 1) / interval ≤ slots + 1
 shots-few slots interval pos = div-le-of-le-mul interval (omega (arith, mul-le-mul-right slots pos))
@@ -116,9 +111,6 @@ bounds-of g logs records buffer a =
     = omega (
       arith,
       all-slots (run g buffer .running .standing .nodes) (g .nodes) (s .slots) (now .totals),
-      sum-is (λ (v : Node). v .«slots_listen») (run g buffer .running .standing .nodes) (g .nodes),
-      sum-is (λ (v : Node). v .«slots_flood») (run g buffer .running .standing .nodes) (g .nodes),
-      sum-is (λ (v : Node). v .«slots_sleep») (run g buffer .running .standing .nodes) (g .nodes),
     ) in
     let successes : s .successes ≤ s .attempts = successes-most (now .tallied) zero-le in
     let attempts : s .attempts ≤ g .nodes * g .nodes * s .slots = omega (arith, now .tallied .few) in

@@ -24,7 +24,7 @@ use Rattle.network.specs.Topology.{topologyRow, topologyRows}
 use Rattle.network.specs.Reception.{fraction, heard}
 use Rattle.network.specs.Table.{tabulate}
 use Rattle.phy.specs.Node.{tick, transition}
-use Rattle.phy.specs.Slot.{among, receivers, insert, attempt, attemptAll, store, takeOne, takeWhile, ticked, snapshot, triesIn, moved, slotStep}
+use Rattle.phy.specs.Slot.{among, receivers, insert, attempt, attemptAll, store, takeOne, takeWhile, ticked, snapshot, triesIn, moved, slotStep, sumOf}
 use Rattle.phy.specs.Round.{begun, slots, delivered, participants, coverage, round}
 use Rattle.phy.specs.Packets.{samePacket}
 use Rattle.protocol.specs.Paxos.{unionIn, union, size, logged, hold, holdNew, mergeVotesUpTo, greatestQuorum, commitTerm, commitBelow, newlyBelow, commitTo, newlyTo, gapIn, detectGap, find, recovery}
@@ -32,7 +32,7 @@ use Rattle.protocol.specs.Turns.{announce, initiatorTurn, takeData, takePiggyba
 use Rattle.sim.specs.Questions.{rateAllowed, rowsRefusal, topologyRefusal}
 use Rattle.sim.specs.Round.{recorded, recordAll, prepareRound, takeTurn, turns, processRound, shortestFrom}
 use Rattle.sim.specs.Run.{runRound, complete, endAfter, roundsFrom, run}
-use Rattle.sim.specs.Entries.{sumOf, logsWith, numbersOf, ranWith, runOfRows, runOfTopology}
+use Rattle.sim.specs.Entries.{logsWith, numbersOf, ranWith, runOfRows, runOfTopology}
 
 -- `2 3 0 1 - 0000000000000000 7 1 2 1000`
 abbrev pub printed : Config

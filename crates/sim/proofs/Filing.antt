@@ -1,25 +1,26 @@
 -- Records: one more, in the table and in the list. Assumes nothing.
 use Prim.Native.Nat.{ℕ, zero, suc, _+_, _*_, _%_, _^_, _≤_, _<_}
-use mathlib.Core.Path.{_≡_, refl, sym, ap, ap₂, _∙_}
+use mathlib.Core.Path.{_≡_, refl, sym, ap, ap₂, subst, subst⁻¹, _∙_}
 use mathlib.Core.Bool.{Bool, true, false, cond, _||_}
 use mathlib.Core.List.{List, [], _∷_, _++_}
 use mathlib.Core.Logic.{⊎-elim}
 use native.Mathlib.Nat.{eq-or-lt-of-le, le-of-suc-le-suc}
 use native.Mathlib.Omega.{arith}
-use lib.Bits.{bitOr}
+use lib.Bits.{bitAnd, bitOr}
 use lib.Dec.{eqb}
-use lib.ListN.{length, getD, set, length-set}
-use lib.Seq.{getD-set-same, getD-set-other}
+use lib.ListN.{length, getD, set, take, length-set}
+use lib.Seq.{getD-take, getD-set-same, getD-set-other, take-set-le}
 use borrow.Author.Tests.{eq-eqb, ne-eqb}
 use Rattle.network.specs.Table.{tabulate}
 use Rattle.network.specs.Graph.{has, count}
-use Rattle.network.proofs.Sets.{count-le, count-lt}
+use Rattle.network.proofs.Sets.{and-both, count-le, count-lt}
 use Rattle.network.proofs.Tables.{tabulate-cong, tabulate-snoc}
-use Rattle.phy.specs.Slot.{insert}
-use Rattle.phy.proofs.Masks.{or-shifted-bit, has-insert}
-use Rattle.sim.specs.declared.pipeline.Records.{Records}
+use Rattle.phy.specs.Slot.{among}
+use Rattle.phy.proofs.Attempts.{among-more}
+use Rattle.phy.proofs.Masks.{has-and, or-shifted-bit, has-insert}
+use Rattle.sim.specs.declared.records.Recorded.{Recorded}
 use Rattle.sim.specs.Round.{Record, recorded, recordAll}
-use Rattle.sim.specs.View.{Filed, recordAt, recordsOf}
+use Rattle.sim.specs.View.{Filed, Files, recordAt, recordsOf}
 
 -- ---- counts
 
@@ -47,10 +48,13 @@ count-more (suc n) j f g l e h = ⊎-elim last (λ b. before b (count-more n j f
         let same : _≡_ {A = ℕ} (cond (g n) 1 0) (cond (f n) 1 0) = ap (λ (y : Bool). cond y 1 0) (h n (omega arith) ∙ ap (λ (y : Bool). y || f n) (ne-eqb n j (λ p. omega (arith, p)))) in
         omega (arith, same, more)
 
+pub records-few : {x : Recorded} {t : List ℕ} → Filed x t → x .count ≤ 64
+records-few {x} d = omega (arith, d .few, count-le 64 (has (x .terms)))
+
 -- a table that lacks a term has room
-pub room-left : (x : Records) (t : ℕ) → Filed x → t < 64 → has (x .recorded) t ≡ false → x .count < 64
-room-left x t d h e =
-    omega (arith, d .few, count-lt 64 (has (x .recorded)) (λ (k : ℕ). true) (λ i b q. refl) t h e refl, count-le 64 (λ (k : ℕ). true))
+pub room-left : (x : Recorded) (t : List ℕ) (k : ℕ) → Filed x t → k < 64 → has (x .terms) k ≡ false → x .count < 64
+room-left x t k d h e =
+    omega (arith, d .few, count-lt 64 (has (x .terms)) (λ (j : ℕ). true) (λ i b q. refl) k h e refl, count-le 64 (λ (j : ℕ). true))
 
 -- ---- the table
 
@@ -94,48 +98,52 @@ recorded-append t (q ∷ rs) r = ap (λ (b : Bool). eqb t (q .id) || b) (recorde
     swap false true c = refl
     swap false false c = refl
 
-module _ (x : Records) (t start end : ℕ) (d : Filed x) (small : t < 64) (word : x .recorded < 2 ^ 64) (new : has (x .recorded) t ≡ false) where
+module _ (x : Recorded) (l : List ℕ) (t start end : ℕ) (d : Filed x l) (small : t < 64) (word : x .terms < 2 ^ 64) (new : has (x .terms) t ≡ false) where
   abbrev at : ℕ
-  at = 3 * x .count
+  at = 64 + 3 * x .count
 
-  abbrev added : Records
-  added =
-      record {
-        numbers = set (set (set (x .numbers) at t) (at + 1) start) (at + 2) end;
-        count = x .count + 1;
-        recorded = bitOr (x .recorded) (1 * 2 ^ t % 2 ^ 64);
-      }
+  abbrev added : List ℕ
+  added = set (set (set l at t) (at + 1) start) (at + 2) end
 
-  room : at + 2 < length (x .numbers)
-  room = omega (arith, room-left x t d small new, d .room)
+  abbrev then : Recorded
+  then = record { count = x .count + 1; terms = bitOr (x .terms) (1 * 2 ^ t % 2 ^ 64) }
 
-  pub added-list : recordsOf added ≡ recordsOf x ++ (record { id = t; start = start; end = end } ∷ [])
+  room : at + 2 < length l
+  room = omega (arith, room-left x l t d small new, d .room)
+
+  added-list : recordsOf (x .count + 1) added ≡ recordsOf (x .count) l ++ (record { id = t; start = start; end = end } ∷ [])
   unfolding recordsOf
   added-list =
-      tabulate-snoc (x .count) (recordAt (added .numbers))
-      ∙ ap₂ (λ (l : List Record) (r : Record). l ++ (r ∷ []))
+      tabulate-snoc (x .count) (recordAt added)
+      ∙ ap₂ (λ (m : List Record) (r : Record). m ++ (r ∷ []))
       (tabulate-cong (x .count) _ _ (λ k h. λ i. record {
-        id = three-other (x .numbers) at t start end room (3 * k) (omega arith) i;
-        start = three-other (x .numbers) at t start end room (3 * k + 1) (omega arith) i;
-        end = three-other (x .numbers) at t start end room (3 * k + 2) (omega arith) i;
+        id = three-other l at t start end room (64 + 3 * k) (omega arith) i;
+        start = three-other l at t start end room (64 + 3 * k + 1) (omega arith) i;
+        end = three-other l at t start end room (64 + 3 * k + 2) (omega arith) i;
       }))
       (λ i. record {
-        id = three-first (x .numbers) at t start end room i;
-        start = three-second (x .numbers) at t start end room i;
-        end = three-third (x .numbers) at t start end room i;
+        id = three-first l at t start end room i;
+        start = three-second l at t start end room i;
+        end = three-third l at t start end room i;
       })
 
-  has-added : (k : ℕ) → k < 64 → has (added .recorded) k ≡ (eqb k t || has (x .recorded) k)
+  has-added : (k : ℕ) → k < 64 → has (then .terms) k ≡ (eqb k t || has (x .terms) k)
   has-added k h = ap (λ (s : ℕ). has s k) (or-shifted-bit 64 word small) ∙ has-insert 64 word small k h
 
-  pub added-filed : Filed added
+  added-filed : Filed then added
   added-filed =
       record {
-        room = three-length (x .numbers) at t start end room ∙ d .room;
-        few = ap (λ (k : ℕ). k + 1) (d .few) ∙ sym (count-more 64 t (has (x .recorded)) (has (added .recorded)) small new has-added);
+        room = three-length l at t start end room ∙ d .room;
+        few = ap (λ (k : ℕ). k + 1) (d .few) ∙ sym (count-more 64 t (has (x .terms)) (has (then .terms)) small new has-added);
         known = λ k h. has-added k h ∙ ap (λ (b : Bool). eqb k t || b) (d .known k h)
-            ∙ sym (recorded-append k (recordsOf x) (record { id = t; start = start; end = end })) ∙ ap (recorded k) (sym added-list);
+            ∙ sym (recorded-append k (recordsOf (x .count) l) (record { id = t; start = start; end = end })) ∙ ap (recorded k) (sym added-list);
       }
+
+  added-starts : take 64 added ≡ take 64 l
+  added-starts =
+      take-set-le 64 (set (set l at t) (at + 1) start) (at + 2) end (omega arith)
+      ∙ take-set-le 64 (set l at t) (at + 1) start (omega arith)
+      ∙ take-set-le 64 l at t (omega arith)
 
 -- ---- all terms of a list
 
@@ -161,3 +169,77 @@ pub record-new : (starts : List ℕ) (end t : ℕ) (rs : List Record) → record
     → recordAll starts end (t ∷ []) rs ≡ rs ++ (record { id = t; start = getD starts t 0; end = end } ∷ [])
 unfolding recordAll
 record-new starts end t rs e = ap (λ (b : Bool). cond b rs (rs ++ (record { id = t; start = getD starts t 0; end = end } ∷ []))) e
+
+-- ---- what the code's functions do with the table
+
+pub files-none : {end : ℕ} {x : Recorded} {l : List ℕ} → Filed x l → Files end [] x l x l
+unfolding recordAll
+files-none d = record { filed = d; records = refl; starts = refl }
+
+pub files-then : {end : ℕ} {ts us : List ℕ} {x y z : Recorded} {l m n : List ℕ} → Files end ts x l y m → Files end us y m z n → Files end (ts ++ us) x l z n
+files-then {end} {ts} {us} {x} {y} {z} {l} {m} {n} f g =
+    record {
+      filed = g .filed;
+      records =
+          g .records
+          ∙ ap₂ (λ (s : List ℕ) (rs : List Record). recordAll s end us rs) (f .starts) (f .records)
+          ∙ sym (recordAll-append (take 64 l) end ts us (recordsOf (x .count) l));
+      starts = g .starts ∙ f .starts;
+    }
+
+pub files-at : {end i n : ℕ} (f : ℕ → Bool) {x y : Recorded} {l m : List ℕ} → i ≡ n → Files end (among i f) x l y m → Files end (among n f) x l y m
+files-at {end} {i} {n} f {x} {y} {l} {m} e = subst (λ (k : ℕ). Files end (among k f) x l y m) e
+
+pub files-as : {end : ℕ} {ts : List ℕ} {x y y' : Recorded} {l m m' : List ℕ} → m' ≡ m → y' ≡ y → Files end ts x l y m → Files end ts x l y' m'
+files-as {end} {ts} {x} {y} {y'} {l} {m} {m'} e q s = subst⁻¹ (λ (k : List ℕ). Files end ts x l y' k) e (subst⁻¹ (λ (z : Recorded). Files end ts x l z m) q s)
+
+-- one number more is looked at
+pub files-more : {end k : ℕ} (f : ℕ → Bool) (b : Bool) {x y z : Recorded} {l m n : List ℕ} → f k ≡ b → Files end (among k f) x l y m → Files end (cond b (k ∷ []) []) y m z n
+    → Files end (among (k + 1) f) x l z n
+files-more {end} {k} f b {x} {y} {z} {l} {m} {n} e s t = subst (λ (ts : List ℕ). Files end ts x l z n) (among-more k f b e) (files-then s t)
+
+-- the records, by what the starts, the terms and the records before them are
+pub files-records : {end : ℕ} {ts us : List ℕ} (ss : List ℕ) {x y : Recorded} {l m : List ℕ} {rs : List Record} → Files end ts x l y m → ts ≡ us → recordsOf (x .count) l ≡ rs
+    → ((t : ℕ) → getD (take 64 l) t 0 ≡ getD ss t 0) → recordsOf (y .count) m ≡ recordAll ss end us rs
+files-records {end} {ts} {us} ss {x} {y} {l} {m} {rs} f e q h =
+    f .records ∙ ap₂ (recordAll (take 64 l) end) e q ∙ recordAll-cong (take 64 l) ss end us rs h
+
+-- one record more
+pub files-one : (x : Recorded) (l : List ℕ) (t end : ℕ) (d : Filed x l) (small : t < 64) (word : x .terms < 2 ^ 64) (new : has (x .terms) t ≡ false)
+    → Files end (t ∷ []) x l (then x l t (getD l t 0) end d small word new) (added x l t (getD l t 0) end d small word new)
+files-one x l t end d small word new =
+    record {
+      filed = added-filed x l t (getD l t 0) end d small word new;
+      records =
+          added-list x l t (getD l t 0) end d small word new
+          ∙ ap (λ (k : ℕ). recordsOf (x .count) l ++ (record { id = t; start = k; end = end } ∷ [])) (sym (getD-take 64 l t 0 small))
+          ∙ sym (record-new (take 64 l) end t (recordsOf (x .count) l) (sym (d .known t small) ∙ new));
+      starts = added-starts x l t (getD l t 0) end d small word new;
+    }
+
+-- a term that is recorded
+pub files-known : {x : Recorded} {l : List ℕ} (end t : ℕ) → Filed x l → t < 64 → has (x .terms) t ≡ true → Files end (t ∷ []) x l x l
+files-known {x} {l} end t d small e =
+    record { filed = d; records = sym (record-known (take 64 l) end t (recordsOf (x .count) l) (sym (d .known t small) ∙ e)); starts = refl }
+
+-- terms that are all recorded
+records-same : (starts : List ℕ) (end : ℕ) (f : ℕ → Bool) (rs : List Record) (k : ℕ) → ((t : ℕ) → t < k → f t ≡ true → recorded t rs ≡ true) → recordAll starts end (among k f) rs ≡ rs
+unfolding among recordAll
+records-same starts end f rs zero h = refl
+records-same starts end f rs (suc k) h =
+    recordAll-append starts end (among k f) (cond (f k) (k ∷ []) []) rs
+    ∙ ap (recordAll starts end (cond (f k) (k ∷ []) [])) (records-same starts end f rs k (λ t b e. h t (omega arith) e))
+    ∙ last (f k) refl
+  where
+    last : (b : Bool) → f k ≡ b → recordAll starts end (cond b (k ∷ []) []) rs ≡ rs
+    last true e = record-known starts end k rs (h k (omega arith) e)
+    last false e = refl
+
+pub files-all-known : {x : Recorded} {l : List ℕ} (end newly : ℕ) → Filed x l → bitAnd newly (x .terms) ≡ newly → Files end (among 64 (has newly)) x l x l
+files-all-known {x} {l} end newly d e =
+    record {
+      filed = d;
+      records = sym (records-same (take 64 l) end (has newly) (recordsOf (x .count) l) 64
+          (λ t b h. sym (d .known t b) ∙ and-both (has newly t) (has (x .terms) t) (sym (has-and newly (x .terms) t) ∙ ap (λ (w : ℕ). has w t) e ∙ h) .1));
+      starts = refl;
+    }

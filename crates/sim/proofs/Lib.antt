@@ -25,6 +25,7 @@
 --     Bounds       bounds on the counts of every accepted run
 --     StarredRuns  document 01's starred runs, in one table
 pub mod Filing
+pub mod Full
 pub mod Sharing
 pub mod Rounds
 pub mod Beginning

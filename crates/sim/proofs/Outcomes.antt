@@ -26,14 +26,14 @@ use Rattle.network.proofs.Rows.{getD-widened, length-widened}
 use Rattle.network.proofs.Checks.{question4-checked, checked-question4, agree-checked, diameter-agree}
 use Rattle.network.proofs.Distances.{diameter-lt}
 use Rattle.network.proofs.Topologies.{rows-checked}
+use Rattle.text.specs.declared.listing.Summary.{Summary}
 use Rattle.sim.specs.declared.config.Config.{Config}
 use Rattle.sim.specs.declared.config.Answer.{Answer}
 use Rattle.sim.specs.declared.config.Answer.the-variants.{Ran, Refused}
-use Rattle.sim.specs.declared.pipeline.Finished.{Finished}
 use Rattle.sim.specs.Questions.{slotsAllowed, rateAllowed, runQuestions, rowsQuestions, topologyQuestions, rowsRefusal, topologyRefusal}
 use Rattle.sim.specs.Run.{Given, run}
 use Rattle.sim.specs.Entries.{Outcome, logsWith, numbersOf, ranWith, givenOf, outcomeOf, runOfRows, runOfTopology}
-use Rattle.sim.specs.View.{recordsOf, statesOf, givenAs, Accepted, Finishes}
+use Rattle.sim.specs.View.{givenAs, Accepted, Finishes}
 use Rattle.sim.specs.Answers.{outcome}
 use Rattle.sim.specs.Printed.{configOf, answerText, outcomeText, lineText}
 use Rattle.text.specs.declared.line.Line.{Line}
@@ -81,12 +81,9 @@ none-or-some none = inl refl
 none-or-some (some k) = inr (k, refl)
 
 -- ---- a run that ended, in the buffers
-pub ran : (g : Given) (f : Finished) (b b' logs records : List ℕ) → Finishes g f b b' →
-    outcome (Ran (f .summary)) (logsWith logs (statesOf (g .nodes) (f .states)) (g .nodes)) (sets records 0 (numbersOf (recordsOf (f .records)))) b'
-    ≡ ranWith g logs records b
+pub ran : {g : Given} {r : Summary} {logs records b logs' records' b' : List ℕ} → Finishes g r logs records b logs' records' b' → outcome (Ran r) logs' records' b' ≡ ranWith g logs records b
 unfolding ranWith
-ran g f b b' logs records e = λ i.
-    outcome (Ran (e .summary i)) (logsWith logs (e .states i) (g .nodes)) (sets records 0 (numbersOf (e .records i))) (e .snapshots i)
+ran e = λ i. outcome (Ran (e .summary i)) (e .logs i) (e .records i) (e .snapshots i)
 
 -- ---- rows: what the diameter's answer says
 pub measured-refused : (rows : List ℕ) (n k : ℕ) → Measured·Refused k ≡ measured rows n → firstNo (rowsQuestions rows n) ≡ some k

@@ -1,6 +1,6 @@
 -- A round of the code beside a round of the definitions: bounds, and settings that differ in the progress alone. Assumes nothing.
 use Prim.Native.Nat.{ℕ, suc, _+_, _*_, _≤_, _<_, max}
-use mathlib.Core.Path.{_≡_, refl, ap, _∙_}
+use mathlib.Core.Path.{_≡_, subst}
 use mathlib.Core.Bool.{true}
 use mathlib.Core.List.{List}
 use native.Mathlib.Nat.{mul-le-mul}
@@ -11,8 +11,8 @@ use Rattle.phy.specs.declared.ci.RoundSlots.{RoundSlots}
 use Rattle.phy.specs.declared.packet.Packet.{Packet}
 use Rattle.phy.specs.declared.slot.Flood.{Flood}
 use Rattle.phy.specs.Slot.{Setup, Standing}
-use Rattle.phy.specs.Round.{lengthLimit, round, coverage}
-use Rattle.phy.specs.View.{Sound}
+use Rattle.phy.specs.Round.{Flooded, lengthLimit, round, coverage}
+use Rattle.phy.specs.View.{Sound, Stands}
 use Rattle.sim.specs.declared.config.Config.{Config}
 use Rattle.sim.specs.Questions.{slotsAllowed}
 use Rattle.sim.specs.Going.{settingsOf}
@@ -26,9 +26,13 @@ limit-few RoundSlots.Absent d repeats ok short few =
 
 pub sound-as : (n : ℕ) (c : Config) (p q : ℕ) {x : Flood} → Sound (settingsOf n c p) x → Sound (settingsOf n c q) x
 sound-as n c p q s =
-    record { few = s .few; interval = s .interval; right = s .right; counted = s .counted; attempts = s .attempts; successes = s .successes; next = s .next }
+    record { few = s .few; interval = s .interval; attempts = s .attempts; successes = s .successes; next = s .next }
 
 -- no more nodes are covered than there are
 pub covered-few : (g : Setup) (limit initiator : ℕ) (packet : Packet) (s : Standing) → round g limit initiator packet s .covered ≤ g .nodes
 unfolding round coverage
 covered-few g limit initiator packet s = count-le (g .nodes) _
+
+-- the code stands where an equal round leads
+pub stands-as : {n : ℕ} {x : Flood} {l h b : List ℕ} {f g : Flooded} → f ≡ g → Stands n x l h b (f .after) → Stands n x l h b (g .after)
+stands-as {n} {x} {l} {h} {b} e = subst (λ (y : Flooded). Stands n x l h b (y .after)) e

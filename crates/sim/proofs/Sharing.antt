@@ -1,18 +1,19 @@
 -- What the nodes share between rounds: states by node, starts by term, and the terms that a commit answers. Assumes nothing.
-use Prim.Native.Nat.{ℕ, zero, suc, _+_, _/_, _%_, _^_, _≤_, _<_}
-use mathlib.Core.Path.{_≡_, refl, sym, ap, ap₂, subst, _∙_}
+use Prim.Native.Nat.{ℕ, zero, suc, _+_, _*_, _≤_, _<_}
+use mathlib.Core.Path.{_≡_, refl, sym, ap, ap₂, subst, subst⁻¹, _∙_}
 use mathlib.Core.Bool.{Bool, true, false, cond, not, _&&_}
-use mathlib.Core.List.{List, [], _∷_, _++_}
+use mathlib.Core.List.{List, [], _∷_, _++_, append-nil}
 use mathlib.Core.Logic.{_⊎_, inl, inr, ⊎-elim}
-use native.Mathlib.Nat.{le-dest, le-refl}
+use native.Mathlib.Nat.{le-dest, le-refl, add-zero}
 use native.Mathlib.Numerals.{add-one}
 use native.Mathlib.Omega.{arith}
+use lib.Count.{ones}
 use lib.Dec.{eqb, ltb}
-use lib.ListN.{length, getD, set, take, length-take, length-set, List·getD-eq-default}
-use lib.Seq.{take-suc-set, getD-take, getD-set-same, getD-set-other, ext-getD, length-take-le}
+use lib.ListN.{length, getD, set, take, length-set, List·getD-eq-default}
+use lib.Seq.{take-suc-set, take-take, getD-take, getD-set-same, getD-set-other, length-take-le}
 use borrow.Author.Tests.{lt-ltb, le-ltb, ltb-true}
 use Rattle.network.specs.Graph.{has}
-use Rattle.network.proofs.Tables.{length-tabulate, getD-tabulate, is-tabulate}
+use Rattle.network.proofs.Tables.{length-tabulate, getD-tabulate, is-tabulate, tabulate-cong}
 use Rattle.phy.specs.Slot.{among}
 use Rattle.phy.specs.declared.packet.LastAccepted.{LastAccepted}
 use Rattle.phy.specs.declared.packet.Packet.{Packet}
@@ -20,14 +21,13 @@ use Rattle.phy.specs.declared.packet.Piggyback.{Piggyback}
 use Rattle.phy.proofs.Attempts.{among-cong, among-stop}
 use Rattle.protocol.specs.Paxos.{Entry, State, empty, logged, quorum, greatestQuorum, newlyBelow, newlyTo, termSet}
 use Rattle.protocol.specs.Turns.{counted, propose, announce, initiatorTurn, participantTurn}
-use Rattle.protocol.specs.View.{view, Kept, lastBelow, backBelow}
-use Rattle.protocol.specs.declared.paxos.NodePaxosState.{NodePaxosState}
+use Rattle.protocol.specs.View.{view, loggedSet, entryAt, logOf, Kept, Wrote, lastBelow, backBelow}
+use Rattle.protocol.proofs.Frame.{Same, wrote-same, wrote-same-before, frame-view, frame-kept}
 use Rattle.protocol.proofs.Commit.{newly-bit}
-use Rattle.protocol.proofs.TurnLaws.{log-count}
 use Rattle.protocol.proofs.Kept.{last-mono, kept-mono}
-use Rattle.sim.specs.declared.pipeline.States.{States}
-use Rattle.sim.specs.Round.{Shared, stateOf, latest, onePiggyback, takeTurn, turns}
-use Rattle.sim.specs.View.{Started, AllKept, Sharing, statesOf, nodeAt, idle, withoutPiggyback}
+use Rattle.sim.specs.declared.records.Recorded.{Recorded}
+use Rattle.sim.specs.Round.{Shared, recorded, stateOf, latest, onePiggyback, takeTurn, turns}
+use Rattle.sim.specs.View.{Filed, Files, Started, Starts, AllKept, Sharing, recordsOf, statesOf, withoutPiggyback}
 use Rattle.sim.specs.declared.pipeline.Shared.{Shared as Carried}
 
 pub counted-is : (b : Bool) (c : ℕ) → counted b c ≡ c + cond b 1 0
@@ -42,41 +42,56 @@ same (suc k) (suc i) = ⊎-elim (λ p. inl (ap suc p)) (λ q. inr (λ p. q (omeg
 
 -- ---- states
 
-pub state-at : (n : ℕ) (x : States) (j : ℕ) → j < n → stateOf (statesOf n x) j ≡ view (nodeAt x j)
+pub state-at : (n : ℕ) (b : List ℕ) (j : ℕ) → j < n → stateOf (statesOf n b) j ≡ view b (195 * j)
 unfolding statesOf
-state-at n x j h = getD-tabulate n (λ (k : ℕ). view (nodeAt x k)) j empty h
+state-at n b j h = getD-tabulate n (λ (k : ℕ). view b (195 * k)) j empty h
 
-pub states-set : (n : ℕ) (x : States) (j : ℕ) (w : NodePaxosState) → j < n → n ≤ length (x .at)
-    → statesOf n (record { at = set (x .at) j w }) ≡ set (statesOf n x) j (view w)
-unfolding statesOf
-states-set n x j w h r =
-    sym (is-tabulate n (λ (k : ℕ). view (getD (set (x .at) j w) k idle)) empty (set (statesOf n x) j (view w)) (length-set (statesOf n x) j (view w) ∙ length-tabulate n (λ (k : ℕ). view (nodeAt x k)))
-    (λ k b. ⊎-elim (λ e. here k e) (λ e. there k b e) (same k j)))
+-- a node's places are not those of another
+untouched : {b b' : List ℕ} (j k : ℕ) → Wrote (195 * j) b b' → (k ≡ j → ⊥) → Same (195 * k) b b'
+untouched {b} {b'} j k w ne =
+    ⊎-elim (λ e. absurd (ne e)) (λ _. ⊎-elim (λ h. wrote-same-before w (omega (arith, h))) (λ h. wrote-same w (omega (arith, h))) (apart j k ne)) (same k j)
   where
-    here : (k : ℕ) → k ≡ j → getD (set (statesOf n x) j (view w)) k empty ≡ view (getD (set (x .at) j w) k idle)
-    here k e =
-        ap (λ (m : ℕ). getD (set (statesOf n x) j (view w)) m empty) e
-        ∙ getD-set-same (statesOf n x) j (view w) empty (omega (arith, length-tabulate n (λ (m : ℕ). view (nodeAt x m))))
-        ∙ sym (ap view (ap (λ (m : ℕ). getD (set (x .at) j w) m idle) e ∙ getD-set-same (x .at) j w idle (omega arith)))
+    apart : (j k : ℕ) → (k ≡ j → ⊥) → (k < j) ⊎ (j < k)
+    apart zero zero q = absurd (q refl)
+    apart zero (suc k) q = inr (omega arith)
+    apart (suc j) zero q = inl (omega arith)
+    apart (suc j) (suc k) q = ⊎-elim (λ h. inl (omega (arith, h))) (λ h. inr (omega (arith, h))) (apart j k (λ p. q (ap suc p)))
 
-    there : (k : ℕ) → k < n → (k ≡ j → ⊥) → getD (set (statesOf n x) j (view w)) k empty ≡ view (getD (set (x .at) j w) k idle)
-    there k b q =
-        getD-set-other (statesOf n x) j k (view w) empty q
-        ∙ state-at n x k b
-        ∙ sym (ap view (getD-set-other (x .at) j k w idle q))
+pub states-set : {c : ℕ} (n : ℕ) (b b' : List ℕ) (j : ℕ) (v : State) → AllKept c n b → j < n → Wrote (195 * j) b b' → view b' (195 * j) ≡ v
+    → statesOf n b' ≡ set (statesOf n b) j v
+unfolding statesOf
+states-set n b b' j v a h w e =
+    sym (is-tabulate n (λ (k : ℕ). view b' (195 * k)) empty (set (statesOf n b) j v) (length-set (statesOf n b) j v ∙ length-tabulate n (λ (k : ℕ). view b (195 * k)))
+    (λ k l. ⊎-elim (λ q. here k q) (λ q. there k l q) (same k j)))
+  where
+    here : (k : ℕ) → k ≡ j → getD (set (statesOf n b) j v) k empty ≡ view b' (195 * k)
+    here k q =
+        ap (λ (m : ℕ). getD (set (statesOf n b) j v) m empty) q
+        ∙ getD-set-same (statesOf n b) j v empty (omega (arith, length-tabulate n (λ (m : ℕ). view b (195 * m))))
+        ∙ sym e
+        ∙ ap (λ (m : ℕ). view b' (195 * m)) (sym q)
+
+    there : (k : ℕ) → k < n → (k ≡ j → ⊥) → getD (set (statesOf n b) j v) k empty ≡ view b' (195 * k)
+    there k l q =
+        getD-set-other (statesOf n b) j k v empty q
+        ∙ state-at n b k l
+        ∙ sym (frame-view (untouched j k w q) (a .each k l))
 
 -- ---- starts
 
-pub start-at : {c : ℕ} {starts : List ℕ} → Started c starts → c ≤ 64 → (t : ℕ) → getD starts t 0 ≡ getD (take c starts) t 0
-start-at {c} {starts} s few t = ⊎-elim (λ h. sym (getD-take c starts t 0 h)) (λ h. s .unused t h ∙ sym (List·getD-eq-default (take c starts) 0 (beyond h))) (side t c)
-  where
-    side : (t c : ℕ) → (t < c) ⊎ (c ≤ t)
-    side t zero = inr (omega arith)
-    side zero (suc c) = inl (omega arith)
-    side (suc t) (suc c) = ⊎-elim (λ h. inl (omega (arith, h))) (λ h. inr (omega (arith, h))) (side t c)
+side : (t c : ℕ) → (t < c) ⊎ (c ≤ t)
+side t zero = inr (omega arith)
+side zero (suc c) = inl (omega arith)
+side (suc t) (suc c) = ⊎-elim (λ h. inl (omega (arith, h))) (λ h. inr (omega (arith, h))) (side t c)
 
-    beyond : c ≤ t → length (take c starts) ≤ t
-    beyond h = omega (arith, length-take-le c starts (omega (arith, s .room)))
+-- a start is that of the proposals made, and 0 for a term that is none
+pub start-at : {c : ℕ} {l : List ℕ} → Started c l → c ≤ 64 → (t : ℕ) → getD (take 64 l) t 0 ≡ getD (take c l) t 0
+start-at {c} {l} s few t =
+    ⊎-elim
+    (λ h. getD-take 64 l t 0 (omega arith) ∙ sym (getD-take c l t 0 h))
+    (λ h. ⊎-elim (λ w. getD-take 64 l t 0 w ∙ s .unused t h w) (λ w. List·getD-eq-default (take 64 l) 0 (omega (arith, length-take-le 64 l (omega (arith, s .room))))) (side t 64)
+    ∙ sym (List·getD-eq-default (take c l) 0 (omega (arith, length-take-le c l (omega (arith, s .room))))))
+    (side t c)
 
 -- ---- what a commit answers
 
@@ -133,21 +148,64 @@ participant-newly i p s h = newly-among (p .«last_accepted_term») (s .log) h
 
 -- ---- one start more
 
-pub started-more : (c v : ℕ) (starts : List ℕ) → Started c starts → c < 64 → Started (c + 1) (set starts c v) × (take (c + 1) (set starts c v) ≡ take c starts ++ (v ∷ []))
-started-more c v starts s h = (
-  record { room = length-set starts c v ∙ s .room; unused = λ t b. getD-set-other starts c t v 0 (λ p. omega (arith, p)) ∙ s .unused t (omega arith) },
-  ap (λ (k : ℕ). take k (set starts c v)) (add-one c) ∙ take-suc-set starts c v (omega (arith, s .room)),
-)
+pub starts-one : (c v : ℕ) (l : List ℕ) → Started c l → c < 64 → Starts c true v l (set l c v)
+starts-one c v l s h =
+    record {
+      started = record { room = length-set l c v ∙ s .room; unused = λ t b w. getD-set-other l c t v 0 (λ p. omega (arith, p)) ∙ s .unused t (omega arith) w };
+      starts = ap (λ (k : ℕ). take k (set l c v)) (add-one c) ∙ take-suc-set l c v (omega (arith, s .room));
+      records = λ k b. getD-set-other l c k v 0 (λ p. omega (arith, p));
+    }
+
+pub starts-none : (c v : ℕ) (l : List ℕ) → Started c l → Starts c false v l l
+starts-none c v l s =
+    record {
+      started = record { room = s .room; unused = λ t b w. s .unused t (omega arith) w };
+      starts = ap (λ (k : ℕ). take k l) (add-zero c) ∙ sym (append-nil (take c l));
+      records = λ k b. refl;
+    }
+
+-- the records are what they were
+pub starts-records : {c slot : ℕ} {p : Bool} {l l' : List ℕ} (m : ℕ) → Starts c p slot l l' → recordsOf m l' ≡ recordsOf m l
+unfolding recordsOf
+starts-records {c} {slot} {p} {l} {l'} m s =
+    tabulate-cong m _ _ (λ k h. λ i. record { id = s .records (64 + 3 * k) (omega arith) i; start = s .records (64 + 3 * k + 1) (omega arith) i; end = s .records (64 + 3 * k + 2) (omega arith) i })
+
+pub starts-filed : {c slot : ℕ} {p : Bool} {l l' : List ℕ} (x : Recorded) → Starts c p slot l l' → Filed x l → Filed x l'
+unfolding recordsOf
+starts-filed {c} {slot} {p} {l} {l'} x s d =
+    record {
+      room = s .started .room;
+      few = d .few;
+      known = λ k h. d .known k h ∙ ap (recorded k) (sym (starts-records (x .count) s));
+    }
+
+-- what is recorded leaves the starts
+pub starts-same : {end : ℕ} {ts : List ℕ} {x y : Recorded} {l l' : List ℕ} → Files end ts x l y l' → (k m : ℕ) → k ≡ m → m ≤ 64 → take k l' ≡ take m l
+starts-same {l = l} {l' = l'} f k m e h = ap (λ (c : ℕ). take c l') e ∙ sym (take-take m 64 l' h) ∙ ap (take m) (f .starts) ∙ take-take m 64 l h
+
+pub started-same : {end c : ℕ} {ts : List ℕ} {x y : Recorded} {l l' : List ℕ} → Files end ts x l y l' → Started c l → Started c l'
+started-same {l = l} {l' = l'} f s =
+    record {
+      room = f .filed .room;
+      unused = λ k b w. sym (getD-take 64 l' k 0 w) ∙ ap (λ (m : List ℕ). getD m k 0) (f .starts) ∙ getD-take 64 l k 0 w ∙ s .unused k b w;
+    }
+
+-- the same at another name of the counter
+pub started-as : {l : List ℕ} {m n : ℕ} → m ≡ n → Started m l → Started n l
+started-as {l} e = subst (λ (k : ℕ). Started k l) e
+
+pub kept-as : {b : List ℕ} {at m n : ℕ} → m ≡ n → Kept m b at → Kept n b at
+kept-as {b} {at} e = subst (λ (k : ℕ). Kept k b at) e
 
 -- ---- all states kept
 
-pub kept-set : {c d n : ℕ} {x : States} (j : ℕ) (w : NodePaxosState) → AllKept c n x → c ≤ d → d ≤ 64 → j < n → Kept d w → AllKept d n (record { at = set (x .at) j w })
-kept-set {c} {d} {n} {x} j w a up most h k =
+pub kept-set : {c d n : ℕ} {b b' : List ℕ} (j : ℕ) → AllKept c n b → c ≤ d → d ≤ 64 → Wrote (195 * j) b b' → Kept d b' (195 * j) → AllKept d n b'
+kept-set {c} {d} {n} {b} {b'} j a up most w k =
     record {
-      room = omega (arith, a .room, length-set (x .at) j w);
-      each = λ i b. ⊎-elim
-          (λ e. subst (Kept d) (sym (ap (λ (m : ℕ). getD (set (x .at) j w) m idle) e ∙ getD-set-same (x .at) j w idle (omega (arith, a .room)))) k)
-          (λ q. subst (Kept d) (sym (getD-set-other (x .at) j i w idle q)) (kept-mono up most (a .each i b)))
+      room = w .size ∙ a .room;
+      each = λ i h. ⊎-elim
+          (λ e. subst (λ (m : ℕ). Kept d b' (195 * m)) (sym e) k)
+          (λ q. kept-mono up most (frame-kept (untouched j i w q) (a .each i h)))
           (same i j);
     }
 
@@ -186,12 +244,17 @@ module _ (packet : Packet) (slot part m : ℕ) (s : Shared) where
 
 -- ---- what holds between turns
 
-pub cleared-sharing : {n a b : ℕ} {x : Carried} → Sharing n a b x → Sharing n a b (withoutPiggyback x)
+pub cleared-sharing : {n a m : ℕ} {x : Carried} {b t : List ℕ} → Sharing n a m x b t → Sharing n a m (withoutPiggyback x) b t
 cleared-sharing s = record { few = s .few; kept = s .kept; started = s .started; filed = s .filed; back = tt; nacks = s .nacks; piggybacks = s .piggybacks }
 
-pub sharing-more : {n a b d : ℕ} {x : Carried} → b ≤ d → Sharing n a b x → Sharing n a d x
+pub sharing-more : {n a m d : ℕ} {x : Carried} {b t : List ℕ} → m ≤ d → Sharing n a m x b t → Sharing n a d x b t
 sharing-more h s = record { few = s .few; kept = s .kept; started = s .started; filed = s .filed; back = s .back; nacks = s .nacks; piggybacks = omega (arith, s .piggybacks) }
 
--- the length of a node's log is its count
-pub log-length : (n : ℕ) (x : States) (j : ℕ) {c : ℕ} → AllKept c n x → j < n → length (stateOf (statesOf n x) j .log) ≡ nodeAt x j .count
-log-length n x j k h = ap (λ (s : State). length (s .log)) (state-at n x j h) ∙ log-count (k .each j h)
+pub sharing-as : {n a m : ℕ} {x y : Carried} {b b' t t' : List ℕ} → b' ≡ b → t' ≡ t → y ≡ x → Sharing n a m x b t → Sharing n a m y b' t'
+sharing-as {n} {a} {m} {x} {y} {b} {b'} {t} {t'} e q p s =
+    subst⁻¹ (λ (z : List ℕ). Sharing n a m y z t') e (subst⁻¹ (λ (z : List ℕ). Sharing n a m y b z) q (subst⁻¹ (λ (z : Carried). Sharing n a m z b t) p s))
+
+-- the length of a node's log is the size of its set
+pub log-length : (n : ℕ) (b : List ℕ) (j : ℕ) → j < n → length (stateOf (statesOf n b) j .log) ≡ ones (loggedSet b (195 * j))
+unfolding logOf
+log-length n b j h = ap (λ (s : State). length (s .log)) (state-at n b j h) ∙ length-tabulate (ones (loggedSet b (195 * j))) (entryAt b (195 * j))

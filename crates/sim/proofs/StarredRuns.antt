@@ -19,7 +19,7 @@ use Rattle.network.proofs.Starred.{diameters}
 use Rattle.phy.specs.Node.{tick, transition}
 use Rattle.phy.specs.Packets.{samePacket}
 use Rattle.phy.specs.Round.{begun, slots, delivered, participants, coverage, round}
-use Rattle.phy.specs.Slot.{among, receivers, insert, attempt, attemptAll, store, takeOne, takeWhile, ticked, snapshot, triesIn, moved, slotStep}
+use Rattle.phy.specs.Slot.{among, receivers, insert, attempt, attemptAll, store, takeOne, takeWhile, ticked, snapshot, triesIn, moved, slotStep, sumOf}
 use Rattle.phy.proofs.Starred.{length-limits}
 use Rattle.protocol.specs.Paxos.{union, size, logged, hold, holdNew, mergeVotesUpTo, greatestQuorum, commitTerm, commitBelow, newlyBelow, commitTo, newlyTo, gapIn, detectGap, find, recovery}
 use Rattle.protocol.specs.Turns.{announce, initiatorTurn, takeData, takePiggyback, takeVotes, participantTurn}
@@ -31,7 +31,7 @@ use Rattle.text.specs.Numeral.{digit, allDigits, append, numeral, decimal, hexa
 use Rattle.text.specs.declared.listing.Summary.{Summary}
 use Rattle.sim.specs.declared.config.Answer.the-variants.{Ran}
 use Rattle.sim.specs.declared.config.Config.{Config}
-use Rattle.sim.specs.Entries.{sumOf, logsWith, numbersOf, summaryOf, ranWith, outcomeOf, runOfRows, runOfTopology}
+use Rattle.sim.specs.Entries.{logsWith, numbersOf, summaryOf, ranWith, outcomeOf, runOfRows, runOfTopology}
 use Rattle.sim.specs.ExactRounds.{Asked, ofRows, ofTopology, givenFor, outcomeFor}
 use Rattle.sim.specs.Printed.{lineText, printed}
 use Rattle.sim.specs.Questions.{rateAllowed, rowsRefusal, topologyRefusal}

@@ -7,8 +7,7 @@ use native.Mathlib.Omega.{arith}
 use lib.ListN.{replicate, getD-replicate}
 use Rattle.phy.specs.declared.node.Node.{Node}
 use Rattle.phy.specs.Node.{new}
-use Rattle.phy.specs.Slot.{at}
-use Rattle.sim.specs.Entries.{sumOf}
+use Rattle.phy.specs.Slot.{at, sumOf}
 use Rattle.sim.specs.ExactRounds.{sum}
 
 -- where none is above m

@@ -11,7 +11,7 @@ use Rattle.network.specs.Topology.{topologyRows, topologyOf}
 use Rattle.network.specs.Distance.{diameter}
 use Rattle.network.specs.Reception.{heard}
 use Rattle.phy.specs.declared.node.Node.{Node}
-use Rattle.phy.specs.Slot.{at}
+use Rattle.phy.specs.Slot.{sumOf}
 use Rattle.protocol.specs.Paxos.{Entry, State}
 use Rattle.text.specs.declared.listing.Summary.{Summary}
 use Rattle.sim.specs.declared.config.Config.{Config}
@@ -27,11 +27,6 @@ pub record Outcome : Type 0 where
   pub logs : List ℕ
   pub records : List ℕ
   pub snapshots : List ℕ
-
--- a field of the nodes, added up over the first n
-unfoldable pub sumOf : (Node → ℕ) → List Node → ℕ → ℕ
-sumOf f nodes zero = 0
-sumOf f nodes (suc n) = sumOf f nodes n + f (at nodes n)
 
 -- The summary: nodes, rounds, slots, end; listen, flood, sleep; attempts, successes; flood rounds, flood nodes, covered; NACKs,
 -- piggybacks; records, and all snapshots that were taken.

@@ -1,86 +1,92 @@
--- The values that the code's structs stand for, and what holds of them between rounds.
+-- The values that the code's structs and tables of numbers stand for, and what holds of them between rounds.
 use Prim.Native.Nat.{ℕ, _+_, _*_, _≤_, _<_}
 use mathlib.Core.Path.{_≡_}
-use mathlib.Core.Bool.{true}
-use mathlib.Core.List.{List, []}
+use mathlib.Core.Bool.{Bool, true, cond}
+use mathlib.Core.List.{List, [], _∷_, _++_}
 use lib.ListN.{length, getD, take}
+use lib.Seq.{sets}
 use Rattle.network.specs.Table.{tabulate}
-use Rattle.network.specs.Graph.{has, count, Checked}
-use Rattle.network.specs.Distance.{diameter}
+use Rattle.network.specs.Graph.{has, count}
 use Rattle.network.specs.Reception.{heard}
-use Rattle.phy.specs.declared.packet.LastAccepted.{LastAccepted}
 use Rattle.phy.specs.declared.packet.Packet.{Packet}
 use Rattle.phy.specs.declared.packet.Piggyback.{Piggyback}
 use Rattle.protocol.specs.Paxos.{State}
 use Rattle.protocol.specs.View as Packets
 use Rattle.protocol.specs.View.{view, Kept, backBelow}
-use Rattle.protocol.specs.declared.paxos.NodePaxosState.{NodePaxosState}
+use Rattle.text.specs.declared.listing.Summary.{Summary}
 use Rattle.sim.specs.declared.config.Config.{Config}
-use Rattle.sim.specs.declared.pipeline.Records.{Records}
-use Rattle.sim.specs.declared.pipeline.States.{States}
-use Rattle.sim.specs.declared.pipeline.Finished.{Finished}
+use Rattle.sim.specs.declared.records.Recorded.{Recorded}
 use Rattle.sim.specs.declared.pipeline.Shared.{Shared as Carried}
 use Rattle.sim.specs.declared.round.Prepared.{Prepared}
 use Rattle.sim.specs.Questions.{slotsAllowed}
-use Rattle.sim.specs.Round.{Record, Shared, recorded, prepareRound, takeTurn, processRound}
-use Rattle.sim.specs.Run.{Given, Running, Ended, run}
-use Rattle.sim.specs.Entries.{summaryOf}
+use Rattle.sim.specs.Round.{Record, Shared, recorded, recordAll, prepareRound, takeTurn, processRound}
+use Rattle.sim.specs.Run.{Given, run}
+use Rattle.sim.specs.Entries.{summaryOf, logsWith, numbersOf}
 
--- record k of a table of numbers, three each
+-- record k of a table of numbers, three each from place 64 on
 abbrev pub recordAt : List ℕ → ℕ → Record
-recordAt numbers k = record { id = getD numbers (3 * k) 0; start = getD numbers (3 * k + 1) 0; end = getD numbers (3 * k + 2) 0 }
+recordAt t k = record { id = getD t (64 + 3 * k) 0; start = getD t (64 + 3 * k + 1) 0; end = getD t (64 + 3 * k + 2) 0 }
 
-unfoldable pub recordsOf : Records → List Record
-recordsOf x = tabulate (x .count) (recordAt (x .numbers))
+-- the first m records
+unfoldable pub recordsOf : ℕ → List ℕ → List Record
+recordsOf m t = tabulate m (recordAt t)
 
 -- there is room for 64 records, and the set says which terms are recorded
-pub record Filed (x : Records) : Type 0 where
-  pub room : length (x .numbers) ≡ 192
-  pub few : x .count ≡ count 64 (has (x .recorded))
-  pub known : (t : ℕ) → t < 64 → has (x .recorded) t ≡ recorded t (recordsOf x)
+pub record Filed (x : Recorded) (t : List ℕ) : Type 0 where
+  pub room : length t ≡ 256
+  pub few : x .count ≡ count 64 (has (x .terms))
+  pub known : (k : ℕ) → k < 64 → has (x .terms) k ≡ recorded k (recordsOf (x .count) t)
 
--- a place of the array that holds no node
-abbrev pub idle : NodePaxosState
-idle = record { status = []; votes = []; payload = []; log = []; count = 0; «last_accepted» = LastAccepted.None }
+-- the terms of a list were recorded, each unless it was; the starts are what they were
+pub record Files (end : ℕ) (ts : List ℕ) (x : Recorded) (t : List ℕ) (r : Recorded) (t' : List ℕ) : Type 0 where
+  pub filed : Filed r t'
+  pub records : recordsOf (r .count) t' ≡ recordAll (take 64 t) end ts (recordsOf (x .count) t)
+  pub starts : take 64 t' ≡ take 64 t
 
-abbrev pub nodeAt : States → ℕ → NodePaxosState
-nodeAt x j = getD (x .at) j idle
-
--- the states of the first n nodes
-unfoldable pub statesOf : ℕ → States → List State
-statesOf n x = tabulate n (λ (j : ℕ). view (nodeAt x j))
+-- the states of the first n nodes, 195 numbers each
+unfoldable pub statesOf : ℕ → List ℕ → List State
+statesOf n b = tabulate n (λ (j : ℕ). view b (195 * j))
 
 -- there is room for the nodes, and each is kept while the counter is c
-pub record AllKept (c n : ℕ) (x : States) : Type 0 where
-  pub room : n ≤ length (x .at)
-  pub each : (j : ℕ) → j < n → Kept c (nodeAt x j)
+pub record AllKept (c n : ℕ) (b : List ℕ) : Type 0 where
+  pub room : length b ≡ 6240
+  pub each : (j : ℕ) → j < n → Kept c b (195 * j)
 
-unfoldable pub sharedOf : ℕ → Carried → Shared
-sharedOf n x =
+unfoldable pub sharedOf : ℕ → Carried → List ℕ → List ℕ → Shared
+sharedOf n x b t =
     record {
-      states = statesOf n (x .states);
+      states = statesOf n b;
       counter = x .counter;
-      starts = take (x .counter) (x .starts);
-      records = recordsOf (x .records);
+      starts = take (x .counter) t;
+      records = recordsOf (x .records) t;
       piggyback = x .piggyback;
       nacks = x .nacks;
       piggybacks = x .piggybacks;
     }
 
--- there is room for 64 starts, and places from the counter on are 0
-pub record Started (c : ℕ) (starts : List ℕ) : Type 0 where
-  pub room : length starts ≡ 64
-  pub unused : (t : ℕ) → c ≤ t → getD starts t 0 ≡ 0
+-- places from the counter on are 0
+pub record Started (c : ℕ) (t : List ℕ) : Type 0 where
+  pub room : length t ≡ 256
+  pub unused : (k : ℕ) → c ≤ k → k < 64 → getD t k 0 ≡ 0
 
--- What holds between the turns of n nodes, with at most a NACKs and b piggybacks so far.
-pub record Sharing (n a b : ℕ) (x : Carried) : Type 0 where
+-- one start more, if a proposal is made; the records are what they were
+pub record Starts (c : ℕ) (proposes : Bool) (slot : ℕ) (t t' : List ℕ) : Type 0 where
+  pub started : Started (c + cond proposes 1 0) t'
+  pub starts : take (c + cond proposes 1 0) t' ≡ take c t ++ cond proposes (slot ∷ []) []
+  pub records : (k : ℕ) → 64 ≤ k → getD t' k 0 ≡ getD t k 0
+
+abbrev pub recordedOf : Carried → Recorded
+recordedOf x = record { count = x .records; terms = x .recorded }
+
+-- What holds between the turns of n nodes, with at most a NACKs and m piggybacks so far.
+pub record Sharing (n a m : ℕ) (x : Carried) (b t : List ℕ) : Type 0 where
   pub few : x .counter ≤ 64
-  pub kept : AllKept (x .counter) n (x .states)
-  pub started : Started (x .counter) (x .starts)
-  pub filed : Filed (x .records)
+  pub kept : AllKept (x .counter) n b
+  pub started : Started (x .counter) t
+  pub filed : Filed (recordedOf x) t
   pub back : backBelow (x .counter) (x .piggyback)
   pub nacks : x .nacks ≤ a
-  pub piggybacks : x .piggybacks ≤ b
+  pub piggybacks : x .piggybacks ≤ m
 
 -- the run of a graph of n nodes, where an attempt's outcome is that of its draw
 abbrev pub givenAs : List ℕ → ℕ → ℕ → Config → Given
@@ -108,44 +114,41 @@ pub record Accepted (graph : List ℕ) (n d : ℕ) (c : Config) : Type 0 where
   pub proposals : c .«num_proposals» ≤ 64
   pub interval : 1 ≤ c .«snapshot_interval»
 
--- The code's run with the snapshot buffer b came to r and the buffer b': the run of the definitions.
-pub record Finishes (g : Given) (r : Finished) (b b' : List ℕ) : Type 0 where
-  pub summary : r .summary ≡ summaryOf g (run g b)
-  pub states : statesOf (g .nodes) (r .states) ≡ run g b .running .shared .states
-  pub kept : AllKept 64 (g .nodes) (r .states)
-  pub records : recordsOf (r .records) ≡ run g b .running .shared .records
-  pub filed : Filed (r .records)
+-- The code's run gave the summary r and left the buffers l of logs, t of records and b of snapshots as the run of the definitions does.
+pub record Finishes (g : Given) (r : Summary) (l t b l' t' b' : List ℕ) : Type 0 where
+  pub summary : r ≡ summaryOf g (run g b)
+  pub logs : l' ≡ logsWith l (run g b .running .shared .states) (g .nodes)
+  pub records : t' ≡ sets t 0 (numbersOf (run g b .running .shared .records))
   pub snapshots : b' ≡ run g b .running .standing .shots .buffer
 
--- The code's `prepare_round` came from x to r: that of the definitions, and what held between the turns holds again. The packet's terms
--- are below the counter.
-pub record Prepares (n proposals i slot : ℕ) (x : Carried) (r : Prepared) : Type 0 where
-  pub sharing : (a b : ℕ) → Sharing n a b x → Sharing n (a + 1) b (r .shared)
+-- The code's `prepare_round` came from x, b and t to r, b' and t': that of the definitions, and what held between the turns holds again.
+-- The packet's terms are below the counter.
+pub record Prepares (n proposals i slot : ℕ) (x : Carried) (b t : List ℕ) (r : Prepared) (b' t' : List ℕ) : Type 0 where
+  pub sharing : (a m : ℕ) → Sharing n a m x b t → Sharing n (a + 1) m (r .shared) b' t'
   pub carried : Packets.Carried (r .shared .counter) (r .packet)
-  pub shared : sharedOf n (r .shared) ≡ prepareRound n proposals i slot (sharedOf n x) .shared
-  pub packet : r .packet ≡ prepareRound n proposals i slot (sharedOf n x) .packet
+  pub shared : sharedOf n (r .shared) b' t' ≡ prepareRound n proposals i slot (sharedOf n x b t) .shared
+  pub packet : r .packet ≡ prepareRound n proposals i slot (sharedOf n x b t) .packet
 
 -- the same with no piggyback
 abbrev pub withoutPiggyback : Carried → Carried
 withoutPiggyback x =
     record {
-      states = x .states;
       counter = x .counter;
-      starts = x .starts;
       records = x .records;
+      recorded = x .recorded;
       piggyback = Piggyback.None;
       nacks = x .nacks;
       piggybacks = x .piggybacks;
     }
 
--- a turn of node j came from x to r: that of the definitions
-pub record TakesTurn (packet : Packet) (slot j : ℕ) (x r : Carried) : Type 0 where
+-- a turn of node j came from x, b and t to r, b' and t': that of the definitions
+pub record TakesTurn (packet : Packet) (slot j : ℕ) (x : Carried) (b t : List ℕ) (r : Carried) (b' t' : List ℕ) : Type 0 where
   pub counter : r .counter ≡ x .counter
-  pub sharing : (n a b : ℕ) → j < n → Sharing n a b x → Sharing n a (b + 1) r
-  pub shared : (n a b : ℕ) → j < n → Sharing n a b x → sharedOf n r ≡ takeTurn packet slot j (sharedOf n x)
+  pub sharing : (n a m : ℕ) → j < n → Sharing n a m x b t → Sharing n a (m + 1) r b' t'
+  pub shared : (n a m : ℕ) → j < n → Sharing n a m x b t → sharedOf n r b' t' ≡ takeTurn packet slot j (sharedOf n x b t)
 
 -- and `process_round` over n nodes
-pub record Processes (n : ℕ) (packet : Packet) (slot part : ℕ) (x r : Carried) : Type 0 where
+pub record Processes (n : ℕ) (packet : Packet) (slot part : ℕ) (x : Carried) (b t : List ℕ) (r : Carried) (b' t' : List ℕ) : Type 0 where
   pub counter : r .counter ≡ x .counter
-  pub sharing : (a b : ℕ) → Sharing n a b x → Sharing n a (b + n) r
-  pub shared : sharedOf n r ≡ processRound n packet slot part (sharedOf n x)
+  pub sharing : (a m : ℕ) → Sharing n a m x b t → Sharing n a (m + n) r b' t'
+  pub shared : sharedOf n r b' t' ≡ processRound n packet slot part (sharedOf n x b t)

@@ -1,6 +1,4 @@
 // The public entries: a run of rows, and a run of a topology.
-use super::buffers::write_logs;
-use super::buffers::write_records;
 use super::config::Answer;
 use super::config::Config;
 use super::questions::Refusal;
@@ -31,12 +29,7 @@ fn run_graph(
     requires { ⌜ Accepted (now graph) n diameter config × ((2080 ≤ length (now logs)) × (192 ≤ length (now records))) ⌝ }
     ensures { λ r. ⌜ outcome r (now (logs .exit)) (now (records .exit)) (now (snapshots .exit)) ≡ ranWith (givenAs (now (graph .entry)) n diameter config) (now (logs .entry)) (now (records .entry)) (now (snapshots .entry)) ⌝ }
 {
-    let done = run_pipeline(graph, n, diameter, config, snapshots);
-    let states = done.states;
-    let filed = done.records;
-    let summary = done.summary;
-    write_logs(states, n, logs);
-    write_records(filed, records);
+    let summary = run_pipeline(graph, n, diameter, config, logs, records, snapshots);
     Answer::Ran(summary)
 }
 

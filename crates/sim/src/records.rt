@@ -1,50 +1,60 @@
-// Records of proposals: the first time that a term is newly committed anywhere.
-use super::pipeline::Records;
+// Records of proposals: the first time that a term is newly committed anywhere. They stand in a lent
+// slice: places 0 to 63 are the slots that the proposals were made in, and the records' numbers, id,
+// start and end of each, follow.
 ghost use mathlib.Core.Path.{_≡_};
 ghost use mathlib.Core.Bool.{false};
-ghost use mathlib.Core.List.{[], _∷_, _++_};
+ghost use mathlib.Core.List.{[], _∷_};
 ghost use Prim.Native.Nat.{_<_};
-ghost use lib.ListN.{length, getD};
 ghost use Rattle.network.specs.Graph.{has};
 ghost use Rattle.phy.specs.Slot.{among};
-ghost use Rattle.sim.specs.Round.{recordAll};
-ghost use Rattle.sim.specs.View.{Filed, recordsOf};
+ghost use Rattle.sim.specs.View.{Filed, Files};
+
+// How many records there are, and the set of the terms that are recorded.
+pub struct Recorded {
+    pub count: u64,
+    pub terms: u64,
+}
 
 // Adds a record of a term that is not recorded.
-fn add(x: Records, id: usize, start: u64, end: u64) -> Records
-    requires { ⌜ Filed x × (id < 64) × (has (x .recorded) id ≡ false) ⌝ }
-    ensures { λ r. ⌜ Filed r × (recordsOf r ≡ recordsOf x ++ (record { id = id; start = start; end = «end» } ∷ [])) ⌝ }
+fn add(table: &mut [u64], x: Recorded, id: usize, end: u64) -> Recorded
+    requires { ⌜ Filed x (now table) × (id < 64) × (has (x .terms) id ≡ false) ⌝ }
+    ensures { λ r. ⌜ Files «end» (id ∷ []) x (now (table .entry)) r (now (table .exit)) ⌝ }
 {
-    let at = 3 * (x.count as usize);
-    let mut r = x;
-    r.numbers[at] = id as u64;
-    r.numbers[at + 1] = start;
-    r.numbers[at + 2] = end;
-    r.count = x.count + 1;
-    r.recorded = x.recorded | (1 << id);
-    r
+    let at = 64 + 3 * (x.count as usize);
+    let start = table[id];
+    table[at] = id as u64;
+    table[at + 1] = start;
+    table[at + 2] = end;
+    Recorded {
+        count: x.count + 1,
+        terms: x.terms | (1 << id),
+    }
 }
 
 // Records a term, unless it is recorded already.
-fn record_one(x: Records, starts: [u64; 64], end: u64, t: usize) -> Records
-    requires { ⌜ Filed x × (t < 64) × (length starts ≡ 64) ⌝ }
-    ensures { λ r. ⌜ Filed r × (recordsOf r ≡ recordAll starts «end» (t ∷ []) (recordsOf x)) ⌝ }
+fn record_one(table: &mut [u64], x: Recorded, end: u64, t: usize) -> Recorded
+    requires { ⌜ Filed x (now table) × (t < 64) ⌝ }
+    ensures { λ r. ⌜ Files «end» (t ∷ []) x (now (table .entry)) r (now (table .exit)) ⌝ }
 {
-    if (x.recorded >> t) % 2 == 1 {
+    if (x.terms >> t) % 2 == 1 {
         return x;
     }
-    add(x, t, starts[t], end)
+    add(table, x, t, end)
 }
 
-// Records the terms of a set, ascending, each unless it is recorded already.
-pub fn record_all(x: Records, starts: [u64; 64], end: u64, newly: u64) -> Records
-    requires { ⌜ Filed x × (length starts ≡ 64) ⌝ }
-    ensures { λ r. ⌜ Filed r × (recordsOf r ≡ recordAll starts «end» (among 64 (has newly)) (recordsOf x)) ⌝ }
+// Records the terms of a set, ascending, each unless it is recorded already. Where all are, nothing
+// is looked at.
+pub fn record_all(table: &mut [u64], x: Recorded, end: u64, newly: u64) -> Recorded
+    requires { ⌜ Filed x (now table) ⌝ }
+    ensures { λ r. ⌜ Files «end» (among 64 (has newly)) x (now (table .entry)) r (now (table .exit)) ⌝ }
 {
+    if newly & x.terms == newly {
+        return x;
+    }
     let mut r = x;
     for t in 0..64 {
         if (newly >> t) % 2 == 1 {
-            r = record_one(r, starts, end, t);
+            r = record_one(table, r, end, t);
         }
     }
     r

@@ -1,6 +1,6 @@
 // The nodes' part of a round, after the source's sim/paxos_pipeline.rs.
 use super::pipeline::Shared;
-use super::pipeline::States;
+use super::records::Recorded;
 use super::records::record_all;
 use network::units::NodeId;
 use network::units::Slot;
@@ -10,13 +10,10 @@ use protocol::turns::initiator_turn;
 use protocol::turns::participant_turn;
 ghost use mathlib.Core.Path.{_≡_};
 ghost use mathlib.Core.Bool.{cond};
-ghost use mathlib.Core.List.{[], _∷_, _++_};
-ghost use Prim.Native.Nat.{ℕ, _+_, _*_, _≤_, _<_, _^_};
-ghost use lib.Dec.{ltb};
-ghost use lib.ListN.{length, getD, take};
+ghost use Prim.Native.Nat.{ℕ, _+_, _≤_, _<_, _^_};
 ghost use Rattle.protocol.specs.View.{Carried};
 ghost use Rattle.sim.specs.Round.{latest as latestOf, onePiggyback};
-ghost use Rattle.sim.specs.View.{Sharing, Started, Prepares, TakesTurn, Processes, withoutPiggyback};
+ghost use Rattle.sim.specs.View.{Started, Starts, Sharing, Prepares, TakesTurn, Processes, withoutPiggyback};
 
 // The nodes' part after `prepare_round`, and the packet to be flooded.
 pub struct Prepared {
@@ -30,44 +27,46 @@ fn one_if(yes: bool) -> u64
     if yes { 1 } else { 0 }
 }
 
-// The slots that the proposals were made in, with one more if a proposal is made now.
-fn started(starts: [u64; 64], counter: u64, proposes: bool, slot: Slot) -> [u64; 64]
-    requires { ⌜ Started counter starts × (counter + cond proposes 1 0 ≤ 64) ⌝ }
-    ensures { λ r. ⌜ Started (counter + cond proposes 1 0) r × (take (counter + cond proposes 1 0) r ≡ take counter starts ++ cond proposes (slot .0 ∷ []) []) ⌝ }
+// Where a proposal is made now, its slot is kept.
+fn start(table: &mut [u64], counter: u64, proposes: bool, slot: Slot)
+    requires { ⌜ Started counter (now table) × (counter + cond proposes 1 0 ≤ 64) ⌝ }
+    ensures { λ _. ⌜ Starts counter proposes (slot .0) (now (table .entry)) (now (table .exit)) ⌝ }
 {
     if proposes {
-        let mut next = starts;
-        next[counter as usize] = slot.0;
-        return next;
+        table[counter as usize] = slot.0;
     }
-    starts
 }
 
 // `prepare_round`: the initiator's turn, the record of what it newly commits, and its packet.
-pub fn prepare_round(x: Shared, n: usize, proposals: u64, initiator: NodeId, slot: Slot) -> Prepared
-    requires { ⌜ ((a : ℕ) × (b : ℕ) × Sharing n a b x × (a < 2 ^ 40)) × (initiator .0 < n) × (n ≤ 32) × (proposals ≤ 64) ⌝ }
-    ensures { λ r. ⌜ Prepares n proposals (initiator .0) (slot .0) x r ⌝ }
+pub fn prepare_round(
+    x: Shared,
+    states: &mut [u64],
+    table: &mut [u64],
+    n: usize,
+    proposals: u64,
+    initiator: NodeId,
+    slot: Slot,
+) -> Prepared
+    requires { ⌜ ((a : ℕ) × (b : ℕ) × Sharing n a b x (now states) (now table) × (a < 2 ^ 40)) × (initiator .0 < n) × (n ≤ 32) × (proposals ≤ 64) ⌝ }
+    ensures { λ r. ⌜ Prepares n proposals (initiator .0) (slot .0) x (now (states .entry)) (now (table .entry)) r (now (states .exit)) (now (table .exit)) ⌝ }
 {
-    let i = initiator.0;
-    let mut states = x.states;
-    let v = states.at[i];
+    let at = 195 * initiator.0;
     let counter = x.counter;
     let proposes = counter < proposals;
     let back = x.piggyback;
-    let turn = initiator_turn(v, initiator, n, counter, proposes, back);
-    let w = turn.state;
-    states.at[i] = w;
+    let turn = initiator_turn(states, at, initiator, n, counter, proposes, back);
     let packet = turn.packet;
-    let old = x.starts;
-    let starts = started(old, counter, proposes, slot);
-    let records = x.records;
-    let filed = record_all(records, starts, slot.0, turn.newly);
+    start(table, counter, proposes, slot);
+    let before = Recorded {
+        count: x.records,
+        terms: x.recorded,
+    };
+    let filed = record_all(table, before, slot.0, turn.newly);
     Prepared {
         shared: Shared {
-            states,
             counter: counter + one_if(proposes),
-            starts,
-            records: filed,
+            records: filed.count,
+            recorded: filed.terms,
             piggyback: back,
             nacks: x.nacks + one_if(0 < packet.nack_term.0),
             piggybacks: x.piggybacks,
@@ -96,26 +95,30 @@ fn one_piggyback(p: Piggyback) -> u64
 }
 
 // A participant's turn, and the record of what it newly commits.
-fn take_turn(x: Shared, packet: Packet, node: NodeId, slot: Slot) -> Shared
-    requires { ⌜ ((n : ℕ) × (a : ℕ) × (b : ℕ) × Sharing n a b x × (node .0 < n) × (n ≤ 32) × (b < 2 ^ 40)) × Carried (x .counter) packet ⌝ }
-    ensures { λ r. ⌜ TakesTurn packet (slot .0) (node .0) x r ⌝ }
+fn take_turn(
+    x: Shared,
+    states: &mut [u64],
+    table: &mut [u64],
+    packet: Packet,
+    node: NodeId,
+    slot: Slot,
+) -> Shared
+    requires { ⌜ ((n : ℕ) × (a : ℕ) × (b : ℕ) × Sharing n a b x (now states) (now table) × (node .0 < n) × (n ≤ 32) × (b < 2 ^ 40)) × Carried (x .counter) packet ⌝ }
+    ensures { λ r. ⌜ TakesTurn packet (slot .0) (node .0) x (now (states .entry)) (now (table .entry)) r (now (states .exit)) (now (table .exit)) ⌝ }
 {
-    let j = node.0;
-    let mut states = x.states;
-    let v = states.at[j];
-    let turn = participant_turn(v, node, packet);
-    let w = turn.state;
-    states.at[j] = w;
-    let starts = x.starts;
-    let records = x.records;
-    let filed = record_all(records, starts, slot.0, turn.newly);
+    let at = 195 * node.0;
+    let turn = participant_turn(states, at, node, packet);
+    let before = Recorded {
+        count: x.records,
+        terms: x.recorded,
+    };
+    let filed = record_all(table, before, slot.0, turn.newly);
     let back = x.piggyback;
     let recovery = turn.recovery;
     Shared {
-        states,
         counter: x.counter,
-        starts,
-        records: filed,
+        records: filed.count,
+        recorded: filed.terms,
         piggyback: latest(recovery, back),
         nacks: x.nacks,
         piggybacks: x.piggybacks + one_piggyback(recovery),
@@ -126,29 +129,34 @@ fn take_turn(x: Shared, packet: Packet, node: NodeId, slot: Slot) -> Shared
 fn cleared(x: Shared) -> Shared
     ensures { λ r. ⌜ r ≡ withoutPiggyback x ⌝ }
 {
-    let states = x.states;
-    let starts = x.starts;
-    let records = x.records;
+    let none = Piggyback::None;
     Shared {
-        states,
         counter: x.counter,
-        starts,
-        records,
-        piggyback: Piggyback::None,
+        records: x.records,
+        recorded: x.recorded,
+        piggyback: none,
         nacks: x.nacks,
         piggybacks: x.piggybacks,
     }
 }
 
 // `process_round`: the turns of the nodes that took part, ascending.
-pub fn process_round(x: Shared, n: usize, packet: Packet, slot: Slot, part: u64) -> Shared
-    requires { ⌜ ((a : ℕ) × (b : ℕ) × Sharing n a b x × (b + 64 < 2 ^ 40)) × (n ≤ 32) × Carried (x .counter) packet ⌝ }
-    ensures { λ r. ⌜ Processes n packet (slot .0) part x r ⌝ }
+pub fn process_round(
+    x: Shared,
+    states: &mut [u64],
+    table: &mut [u64],
+    n: usize,
+    packet: Packet,
+    slot: Slot,
+    part: u64,
+) -> Shared
+    requires { ⌜ ((a : ℕ) × (b : ℕ) × Sharing n a b x (now states) (now table) × (b + 64 < 2 ^ 40)) × (n ≤ 32) × Carried (x .counter) packet ⌝ }
+    ensures { λ r. ⌜ Processes n packet (slot .0) part x (now (states .entry)) (now (table .entry)) r (now (states .exit)) (now (table .exit)) ⌝ }
 {
     let mut y = cleared(x);
     for j in 0..n {
         if (part >> j) % 2 == 1 {
-            y = take_turn(y, packet, NodeId(j), slot);
+            y = take_turn(y, states, table, packet, NodeId(j), slot);
         }
     }
     y

@@ -1,9 +1,8 @@
 // The rounds of a run, up to its end.
+use super::buffers::write_logs;
+use super::buffers::write_records;
 use super::config::Config;
-use super::pipeline::Finished;
-use super::pipeline::Records;
 use super::pipeline::Shared;
-use super::pipeline::States;
 use super::round::prepare_round;
 use super::round::process_round;
 use super::survey::survey;
@@ -14,29 +13,24 @@ use phy::ci::flood_identical_round;
 use phy::ci::length_limit;
 use phy::packet::Piggyback;
 use phy::slot::Flood;
-use phy::slot::Radios;
 use phy::slot::Settings;
-use protocol::paxos::NodePaxosState;
 use text::listing::Summary;
 ghost use mathlib.Core.Path.{_≡_};
 ghost use mathlib.Core.Bool.{cond, _&&_};
 ghost use lib.Dec.{eqb, ltb};
 ghost use Prim.Native.Nat.{ℕ, _+_, _*_, _^_, _≤_, _<_};
-ghost use lib.ListN.{length};
-ghost use Rattle.phy.specs.Round.{lengthLimit};
-ghost use Rattle.phy.specs.Slot.{at as nodeOf};
-ghost use Rattle.phy.specs.Node.{total};
-ghost use Rattle.phy.specs.View.{nodesOf as nodesIn};
+ghost use lib.ListN.{length, replicate};
 ghost use Rattle.sim.specs.Round.{shortestLog};
 ghost use Rattle.sim.specs.Run.{Running, runRound};
 ghost use Rattle.sim.specs.View.{Accepted, Finishes, givenAs};
-ghost use Rattle.sim.specs.Going.{Going, Ends, NewFlood, NewShared, SumsUp};
+ghost use Rattle.sim.specs.Going.{Going, Ends, NewFlood, NewRun, summaryFrom};
 
-// Where a run stands between rounds.
+// Where a run stands between rounds. Snapshots show the progress, the length of the shortest log.
 pub struct Run {
     pub flood: Flood,
     pub shared: Shared,
     pub covered: u64,
+    pub progress: u64,
 }
 
 // A run that has come to an end, and how many rounds it took.
@@ -46,27 +40,19 @@ pub struct Ended {
     pub ended: u64,
 }
 
-// The slots of all nodes in each state.
-pub struct Sums {
-    pub listen: u64,
-    pub flood: u64,
-    pub sleep: u64,
-}
-
 // The radios and draws before the first round: every node listens.
 fn new_flood(n: usize, seed: u64) -> Flood
-    requires { ⌜ (1 ≤ n) × (n ≤ 32) ⌝ }
+    requires { ⌜ n ≤ 32 ⌝ }
     ensures { λ r. ⌜ NewFlood n seed r ⌝ }
 {
-    let node = phy::node::new();
-    let radios = Radios {
-        at: [node; 32],
-        listening: (1u64 << n) - 1,
-        flooding: 0,
-    };
     let source = DrawSource::new(seed);
     Flood {
-        radios,
+        listening: (1u64 << n) - 1,
+        flooding: 0,
+        holding: 0,
+        slots_listen: 0,
+        slots_flood: 0,
+        slots_sleep: 0,
         attempts: 0,
         successes: 0,
         slot: Slot(0),
@@ -76,47 +62,25 @@ fn new_flood(n: usize, seed: u64) -> Flood
     }
 }
 
-// The nodes' part before the first round.
-fn new_shared(n: usize) -> Shared
+// A run before its first round.
+fn new_run(n: usize, seed: u64) -> Run
     requires { ⌜ n ≤ 32 ⌝ }
-    ensures { λ r. ⌜ NewShared n r ⌝ }
+    ensures { λ r. ⌜ NewRun n seed r ⌝ }
 {
-    let state = NodePaxosState::new();
-    let states = States { at: [state; 32] };
-    let records = Records {
-        numbers: [0u64; 192],
-        count: 0,
-        recorded: 0,
-    };
-    Shared {
-        states,
+    let flood = new_flood(n, seed);
+    let shared = Shared {
         counter: 0,
-        starts: [0u64; 64],
-        records,
+        records: 0,
+        recorded: 0,
         piggyback: Piggyback::None,
         nacks: 0,
         piggybacks: 0,
-    }
-}
-
-// Adds up the slots of the first n nodes.
-fn add_up(radios: Radios, n: usize) -> Sums
-    requires { ⌜ (n ≤ 32) × (n ≤ length (radios .at)) × ((slot : ℕ) × (slot < 2 ^ 50) × ((j : ℕ) → j < n → total (nodeOf (nodesIn n radios) j) ≡ slot)) ⌝ }
-    ensures { λ r. ⌜ SumsUp n (nodesIn n radios) r ⌝ }
-{
-    let mut listen = 0u64;
-    let mut flood = 0u64;
-    let mut sleep = 0u64;
-    for j in 0..n {
-        let v = radios.at[j];
-        listen += v.slots_listen;
-        flood += v.slots_flood;
-        sleep += v.slots_sleep;
-    }
-    Sums {
-        listen,
+    };
+    Run {
         flood,
-        sleep,
+        shared,
+        covered: 0,
+        progress: 0,
     }
 }
 
@@ -126,37 +90,53 @@ fn run_round(
     n: usize,
     diameter: usize,
     config: Config,
-    limit: u64,
     k: u64,
-    progress: u64,
     x: Run,
+    left: &mut [u64],
+    held: &mut [u64],
+    states: &mut [u64],
+    table: &mut [u64],
     snapshots: &mut [u64],
 ) -> Run
-    requires { ⌜ Accepted (now graph) n diameter config × (limit ≡ lengthLimit (config .«round_slots») diameter (config .«flood_repeats»)) × (k < 2 ^ 20) × ((s : Running) × Going n config k x (now snapshots) s × (progress ≡ shortestLog (s .shared .states) n)) ⌝ }
-    ensures { λ r. ⌜ ((s : Running) → progress ≡ shortestLog (s .shared .states) n → Going n config k x (now (snapshots .entry)) s → Going n config (k + 1) r (now (snapshots .exit)) (runRound (givenAs (now (graph .entry)) n diameter config) k s)) ⌝ }
+    requires { ⌜ Accepted (now graph) n diameter config × (k < 2 ^ 20) × ((s : Running) × Going n config k x (record { left = now left; held = now held; states = now states; table = now table }) (now snapshots) s × (x .progress ≡ shortestLog (s .shared .states) n)) ⌝ }
+    ensures { λ r. ⌜ ((s : Running) → x .progress ≡ shortestLog (s .shared .states) n → Going n config k x (record { left = now (left .entry); held = now (held .entry); states = now (states .entry); table = now (table .entry) }) (now (snapshots .entry)) s → Going n config (k + 1) r (record { left = now (left .exit); held = now (held .exit); states = now (states .exit); table = now (table .exit) }) (now (snapshots .exit)) (runRound (givenAs (now (graph .entry)) n diameter config) k s)) ⌝ }
 {
     let initiator = NodeId((k % (n as u64)) as usize);
     let flood = x.flood;
     let slot = flood.slot;
     let before = x.shared;
-    let prepared = prepare_round(before, n, config.num_proposals, initiator, slot);
+    let proposals = config.num_proposals;
+    let round_slots = config.round_slots;
+    let limit = length_limit(round_slots, diameter as u64, config.flood_repeats);
+    let prepared = prepare_round(before, states, table, n, proposals, initiator, slot);
     let packet = prepared.packet;
     let settings = Settings {
         nodes: n,
         repeats: config.flood_repeats as u32,
         interval: config.snapshot_interval,
-        progress,
+        progress: x.progress,
         rate: config.loss_rate,
     };
-    let round = flood_identical_round(settings, graph, limit, initiator, packet, flood, snapshots);
+    let round = flood_identical_round(
+        settings,
+        graph,
+        limit,
+        initiator,
+        packet,
+        flood,
+        left,
+        held,
+        snapshots,
+    );
     let after = round.flood;
     let free = after.slot;
     let between = prepared.shared;
-    let processed = process_round(between, n, packet, free, round.part);
+    let processed = process_round(between, states, table, n, packet, free, round.part);
     Run {
         flood: after,
         shared: processed,
         covered: x.covered + round.covered,
+        progress: x.progress,
     }
 }
 
@@ -181,21 +161,18 @@ fn rounds(
     n: usize,
     diameter: usize,
     config: Config,
+    left: &mut [u64],
+    held: &mut [u64],
+    states: &mut [u64],
+    table: &mut [u64],
     snapshots: &mut [u64],
 ) -> Ended
-    requires { ⌜ Accepted (now graph) n diameter config ⌝ }
-    ensures { λ r. ⌜ Ends (givenAs (now (graph .entry)) n diameter config) config r (now (snapshots .entry)) (now (snapshots .exit)) ⌝ }
+    requires { ⌜ Accepted (now graph) n diameter config × (now left ≡ replicate 32 0) × (now held ≡ replicate 384 0) × (now states ≡ replicate 6240 0) × (now table ≡ replicate 256 0) ⌝ }
+    ensures { λ r. ⌜ Ends (givenAs (now (graph .entry)) n diameter config) config r (record { left = now (left .exit); held = now (held .exit); states = now (states .exit); table = now (table .exit) }) (now (snapshots .entry)) (now (snapshots .exit)) ⌝ }
 {
     let proposals = config.num_proposals;
-    let round_slots = config.round_slots;
-    let limit = length_limit(round_slots, diameter as u64, config.flood_repeats);
     let most = proposals + 1002;
-    let mut x = Run {
-        flood: new_flood(n, config.seed),
-        shared: new_shared(n),
-        covered: 0,
-    };
-    let mut progress = 0u64;
+    let mut x = new_run(n, config.seed);
     let mut k = 0u64;
     while k < most {
         if config.max_slots <= x.flood.slot.0 {
@@ -205,16 +182,23 @@ fn rounds(
                 ended: 4,
             };
         }
-        x = run_round(graph, n, diameter, config, limit, k, progress, x, snapshots);
-        let seen = survey(x.shared.states, n, proposals as usize);
-        progress = seen.shortest;
-        let end = end_after(
-            proposals,
-            diameter as u64,
-            seen.complete,
-            x.shared.records.count,
+        x = run_round(
+            graph,
+            n,
+            diameter,
+            config,
             k,
+            x,
+            left,
+            held,
+            states,
+            table,
+            snapshots,
         );
+        let seen = survey(states, n, proposals as usize);
+        x.progress = seen.shortest;
+        let records = x.shared.records;
+        let end = end_after(proposals, diameter as u64, seen.complete, records, k);
         k += 1;
         if end != 0 {
             return Ended {
@@ -231,30 +215,22 @@ fn rounds(
     }
 }
 
-// The run: its summary, and what the buffers are filled from.
-pub fn run_pipeline(
-    graph: &[u64; 32],
-    n: usize,
-    diameter: usize,
-    config: Config,
-    snapshots: &mut [u64],
-) -> Finished
-    requires { ⌜ Accepted (now graph) n diameter config ⌝ }
-    ensures { λ r. ⌜ Finishes (givenAs (now (graph .entry)) n diameter config) r (now (snapshots .entry)) (now (snapshots .exit)) ⌝ }
+// The run's summary, from where it ended.
+fn summary_of(end: Ended, n: usize) -> Summary
+    requires { ⌜ (n ≤ 32) × (end .rounds ≤ 1066) ⌝ }
+    ensures { λ r. ⌜ r ≡ summaryFrom n end ⌝ }
 {
-    let end = rounds(graph, n, diameter, config, snapshots);
     let x = end.run;
     let flood = x.flood;
     let shared = x.shared;
-    let sums = add_up(flood.radios, n);
-    let summary = Summary {
+    Summary {
         nodes: n as u64,
         rounds: end.rounds,
         slots: flood.slot.0,
         ended: end.ended,
-        listen: sums.listen,
-        flood: sums.flood,
-        sleep: sums.sleep,
+        listen: flood.slots_listen,
+        flood: flood.slots_flood,
+        sleep: flood.slots_sleep,
         attempts: flood.attempts,
         successes: flood.successes,
         flood_rounds: end.rounds,
@@ -262,14 +238,40 @@ pub fn run_pipeline(
         covered: x.covered,
         nacks: shared.nacks,
         piggybacks: shared.piggybacks,
-        records: shared.records.count,
+        records: shared.records,
         snapshots: flood.snapshots,
-    };
-    let states = shared.states;
-    let records = shared.records;
-    Finished {
-        summary,
-        states,
-        records,
     }
+}
+
+// The run: its summary, and the buffers filled.
+pub fn run_pipeline(
+    graph: &[u64; 32],
+    n: usize,
+    diameter: usize,
+    config: Config,
+    logs: &mut [u8],
+    records: &mut [u64],
+    snapshots: &mut [u64],
+) -> Summary
+    requires { ⌜ Accepted (now graph) n diameter config × ((2080 ≤ length (now logs)) × (192 ≤ length (now records))) ⌝ }
+    ensures { λ r. ⌜ Finishes (givenAs (now (graph .entry)) n diameter config) r (now (logs .entry)) (now (records .entry)) (now (snapshots .entry)) (now (logs .exit)) (now (records .exit)) (now (snapshots .exit)) ⌝ }
+{
+    let mut left = [0u64; 32];
+    let mut held = [0u64; 384];
+    let mut states = [0u64; 6240];
+    let mut table = [0u64; 256];
+    let end = rounds(
+        graph,
+        n,
+        diameter,
+        config,
+        &mut left,
+        &mut held,
+        &mut states,
+        &mut table,
+        snapshots,
+    );
+    write_logs(&states, n, logs);
+    write_records(&table, end.run.shared.records, records);
+    summary_of(end, n)
 }

@@ -1,11 +1,7 @@
 // How far the logs are.
-use super::pipeline::States;
-use protocol::paxos::NodePaxosState;
 ghost use mathlib.Core.Path.{_≡_};
-ghost use Prim.Native.Nat.{ℕ, _≤_, min};
-ghost use Rattle.network.specs.Graph.{all};
-ghost use Rattle.protocol.specs.Paxos.{logged};
-ghost use Rattle.protocol.specs.View.{view, Kept};
+ghost use Prim.Native.Nat.{_≤_, min};
+ghost use Rattle.network.specs.Graph.{has, all};
 ghost use Rattle.sim.specs.Round.{shortestLog};
 ghost use Rattle.sim.specs.Run.{complete};
 ghost use Rattle.sim.specs.View.{AllKept, statesOf};
@@ -22,31 +18,28 @@ fn smaller(a: u64, b: u64) -> u64
     if a < b { a } else { b }
 }
 
-// Whether a node's log holds each term below `proposals`.
-fn logs_all(state: NodePaxosState, proposals: usize) -> bool
-    requires { ⌜ Kept 64 state × (proposals ≤ 64) ⌝ }
-    ensures { λ r. ⌜ r ≡ all proposals (λ (t : ℕ). logged t (view state .log)) ⌝ }
+// Whether a set holds each term below `proposals`: those below it that it lacks are none.
+fn logs_all(logged: u64, proposals: usize) -> bool
+    requires { ⌜ proposals ≤ 64 ⌝ }
+    ensures { λ r. ⌜ r ≡ all proposals (has logged) ⌝ }
 {
-    for t in 0..proposals {
-        if state.status[t] != 2 {
-            return false;
-        }
+    if proposals == 64 {
+        return logged == 18446744073709551615;
     }
-    true
+    logged % (1u64 << proposals) == (1u64 << proposals) - 1
 }
 
 // Looks at the logs of the first n nodes.
-pub fn survey(states: States, n: usize, proposals: usize) -> Progress
-    requires { ⌜ AllKept 64 n states × (1 ≤ n) × (n ≤ 32) × (proposals ≤ 64) ⌝ }
-    ensures { λ r. ⌜ (r .shortest ≡ shortestLog (statesOf n states) n) × (r .complete ≡ complete n proposals (statesOf n states)) ⌝ }
+pub fn survey(states: &[u64], n: usize, proposals: usize) -> Progress
+    requires { ⌜ AllKept 64 n (now states) × (1 ≤ n) × (n ≤ 32) × (proposals ≤ 64) ⌝ }
+    ensures { λ r. ⌜ (r .shortest ≡ shortestLog (statesOf n (now (states .entry))) n) × (r .complete ≡ complete n proposals (statesOf n (now (states .entry)))) ⌝ }
 {
-    let first = states.at[0];
-    let mut shortest = first.count as u64;
+    let mut shortest = u64::count_ones(states[193]) as u64;
     let mut complete = true;
     for j in 0..n {
-        let v = states.at[j];
-        shortest = smaller(shortest, v.count as u64);
-        complete = complete & logs_all(v, proposals);
+        let logged = states[195 * j + 193];
+        shortest = smaller(shortest, u64::count_ones(logged) as u64);
+        complete = complete & logs_all(logged, proposals);
     }
     Progress { shortest, complete }
 }

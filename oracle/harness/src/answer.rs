@@ -2,14 +2,12 @@
 
 use crate::input::{Graph, Input};
 use ctsim::config::{CiConfig, NetworkConfig, SimConfig};
+use ctsim::metrics::MetricsCollector;
 use ctsim::network::NetworkGraph;
 use ctsim::protocol::paxos::NodePaxosState;
 use ctsim::sim::paxos_pipeline::harness::{self, Finished};
 use ctsim::sim::paxos_pipeline::PaxosPipelineSim;
 use std::panic::{catch_unwind, AssertUnwindSafe};
-
-/// So many snapshots are stored; all are counted.
-pub const STORED_SNAPSHOTS: usize = 1000;
 
 #[derive(Debug, Clone, PartialEq, Eq)]
 pub enum Answer {
@@ -38,9 +36,8 @@ pub struct Summary {
     pub piggybacks_sent: u64,
     /// In the order in which they were recorded.
     pub records: Vec<Record>,
-    /// Slot, progress, listening, flooding, sleeping: those that are stored.
+    /// Slot, progress, listening, flooding, sleeping: all that were taken.
     pub snapshots: Vec<[u64; 5]>,
-    pub snapshot_count: usize,
     /// Terms of each node, in commit order.
     pub logs: Vec<Vec<u64>>,
     /// The data beside each of those terms.
@@ -82,7 +79,7 @@ pub fn run(input: &Input) -> Answer {
 }
 
 fn run_unasked(input: &Input) -> Answer {
-    match caught(|| harness::run(config(input), graph(input))) {
+    match caught(|| wrapped(input)) {
         Ok(finished) => Answer::Ran(Box::new(summary(finished))),
         Err(message) => Answer::Panicked(message),
     }
@@ -95,13 +92,24 @@ pub fn reference_difference(input: &Input) -> Option<String> {
         return None;
     }
     let both = || {
-        let core = harness::run(config(input), graph(input)).core;
+        let core = wrapped(input).core;
         let wrapped = format!("{:?} {:?}", slot_sums(&core.nodes), core.metrics);
-        let (metrics, l, f, s) = PaxosPipelineSim::new(config(input), graph(input)).run();
+        let (metrics, l, f, s) = reference(input);
         let reference = format!("{:?} {metrics:?}", [l, f, s]);
         (wrapped != reference).then(|| format!("wrapped {wrapped}\nreference {reference}"))
     };
     caught(both).unwrap_or_else(Some)
+}
+
+/// ctsim's own run of an accepted input: its metrics and three sums.
+pub fn reference(input: &Input) -> (MetricsCollector, u64, u64, u64) {
+    let graph = graph(input);
+    PaxosPipelineSim::new(config(input, graph.num_nodes()), graph).run()
+}
+
+fn wrapped(input: &Input) -> Finished {
+    let graph = graph(input);
+    harness::run(config(input, graph.num_nodes()), graph)
 }
 
 /// The message, if it panics.
@@ -115,12 +123,12 @@ fn caught<T>(job: impl FnOnce() -> T) -> Result<T, String> {
 
 /// The Rust's configuration of an accepted input. Its two texts and
 /// `abort_probability` are read by nothing that runs here.
-fn config(input: &Input) -> SimConfig {
+fn config(input: &Input, num_nodes: usize) -> SimConfig {
     SimConfig {
         seed: input.seed,
         phy_mode: "ci".into(),
         network: NetworkConfig {
-            num_nodes: graph(input).num_nodes(),
+            num_nodes,
             topology: String::new(),
             loss_rate: f64::from_bits(input.loss_rate),
             graph_file: None,
@@ -174,7 +182,6 @@ fn summary(finished: Finished) -> Summary {
     let Finished { core, states, .. } = finished;
     let metrics = &core.metrics;
     let [listen, flood, sleep] = slot_sums(&core.nodes);
-    let stored = metrics.snapshots.iter().take(STORED_SNAPSHOTS);
     Summary {
         nodes: core.num_nodes(),
         rounds: finished.round_starts.len(),
@@ -191,8 +198,7 @@ fn summary(finished: Finished) -> Summary {
         nacks_sent: metrics.nacks_sent,
         piggybacks_sent: metrics.piggybacks_sent,
         records: metrics.proposals.iter().map(record).collect(),
-        snapshots: stored.map(snapshot).collect(),
-        snapshot_count: metrics.snapshots.len(),
+        snapshots: metrics.snapshots.iter().map(snapshot).collect(),
         logs: states.iter().map(log).collect(),
         data: states.iter().map(data).collect(),
         pending: states.iter().map(pending).collect(),

@@ -95,24 +95,41 @@ fn link_graph(n: usize, mut linked: impl FnMut(usize, usize) -> bool) -> Graph {
 
 /// Accepted inputs without end, the same for the same seed.
 pub fn random(seed: u64) -> impl Iterator<Item = Input> {
-    let mut source = Source(ChaCha8Rng::seed_from_u64(seed));
+    let mut source = Source::new(seed);
     std::iter::from_fn(move || Some(source.input()))
+}
+
+/// The same inputs with their answers. Where a limit was found by a run without one, that run
+/// stands before it.
+pub fn random_answered(seed: u64) -> impl Iterator<Item = (Input, Answer)> {
+    let mut source = Source::new(seed);
+    std::iter::from_fn(move || Some(source.answered())).flatten()
 }
 
 /// Lines without end that have one or two values beyond a limit or can't be read;
 /// a few of them are accepted all the same, as leading zeros are.
 pub fn broken(seed: u64) -> impl Iterator<Item = String> {
-    let mut source = Source(ChaCha8Rng::seed_from_u64(seed));
+    let mut source = Source::new(seed);
     std::iter::from_fn(move || Some(source.broken_line()))
 }
 
 /// Choices made from one stream of draws.
-struct Source(ChaCha8Rng);
+struct Source {
+    draws: ChaCha8Rng,
+    /// The last run that was made to find a limit.
+    unlimited: Option<(Input, Answer)>,
+}
 
 impl Source {
+    fn new(seed: u64) -> Self {
+        let draws = ChaCha8Rng::seed_from_u64(seed);
+        let unlimited = None;
+        Self { draws, unlimited }
+    }
+
     /// A number below `bound`.
     fn below(&mut self, bound: u64) -> u64 {
-        self.0.next_u64() % bound
+        self.draws.next_u64() % bound
     }
 
     fn pick<T: Copy>(&mut self, items: &[T]) -> T {
@@ -145,6 +162,13 @@ impl Source {
         };
         input.max_slots = self.max_slots(&input);
         input
+    }
+
+    fn answered(&mut self) -> impl Iterator<Item = (Input, Answer)> {
+        let input = self.input();
+        let answer = run(&input);
+        let before = self.unlimited.take();
+        before.into_iter().chain([(input, answer)])
     }
 
     fn nodes(&mut self) -> u64 {
@@ -185,7 +209,7 @@ impl Source {
         };
         if let Graph::Rows { rows, .. } = &mut graph {
             if self.below(8) == 0 {
-                rows.push(self.0.next_u64() as u32);
+                rows.push(self.draws.next_u64() as u32);
             }
         }
         graph
@@ -232,7 +256,7 @@ impl Source {
     }
 
     fn seed(&mut self) -> u64 {
-        let any = self.0.next_u64();
+        let any = self.draws.next_u64();
         self.pick(&[0, 1, u64::MAX, any, any])
     }
 
@@ -246,10 +270,12 @@ impl Source {
 
     /// A slot beside the end of one of the run's rounds.
     fn round_end(&mut self, unlimited: &Input) -> u64 {
-        let Answer::Ran(summary) = run(unlimited) else {
+        let answer = run(unlimited);
+        let Answer::Ran(summary) = &answer else {
             return u64::MAX;
         };
         let ends = [&summary.round_starts[1..], &[summary.slots]].concat();
+        self.unlimited = Some((unlimited.clone(), answer));
         let end = self.pick(&ends);
         self.pick(&[end.saturating_sub(1), end, end + 1])
     }

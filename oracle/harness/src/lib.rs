@@ -5,8 +5,7 @@ mod generate;
 mod input;
 mod listing;
 
-pub use answer::{
-    answer, reference_difference, run, Answer, Pending, Record, Summary, STORED_SNAPSHOTS,
-};
-pub use generate::{broken, random, small};
+pub use answer::{answer, reference, reference_difference, run};
+pub use answer::{Answer, Pending, Record, Summary};
+pub use generate::{broken, random, random_answered, small};
 pub use input::{Graph, Input};

@@ -3,6 +3,9 @@
 use crate::answer::{Answer, Summary};
 use std::fmt;
 
+/// A listing has so many snapshots at most.
+const STORED_SNAPSHOTS: usize = 1000;
+
 impl fmt::Display for Answer {
     fn fmt(&self, f: &mut fmt::Formatter) -> fmt::Result {
         match self {
@@ -41,7 +44,7 @@ impl fmt::Display for Summary {
         for r in &self.records {
             writeln!(f, "proposal {} {} {} {}", r.id, r.start, r.end, r.latency)?;
         }
-        for s in &self.snapshots {
+        for s in self.snapshots.iter().take(STORED_SNAPSHOTS) {
             writeln!(f, "snapshot{}", spaced(s))?;
         }
         for (i, log) in self.logs.iter().enumerate() {
@@ -60,7 +63,7 @@ impl Summary {
             .last_accepted
             .iter()
             .map(|t| t.map_or("-".into(), |t| t.to_string()));
-        let mut text = format!("snapshots {}\n", self.snapshot_count);
+        let mut text = format!("snapshots {}\n", self.snapshots.len());
         text += &format!("records{}\n", spaced(records));
         text += &format!("counts{}\n", spaced(counts));
         text += &format!("last{}\n", spaced(last));

@@ -1,76 +1,94 @@
-use mathlib.Core.Path.{ap, _∙_}
-use mathlib.Core.List.{List}
+use mathlib.Core.Path.{refl, ap, subst⁻¹, _∙_}
+use native.Mathlib.Omega.{arith}
 use borrow.Author.Needs.{needs}
+use lib.ListN.{length, length-set}
 use denote.Ref.{now}
-use Rattle.phy.specs.declared.node.Node.{Node}
-use Rattle.phy.specs.Node.{total}
-use Rattle.phy.specs.Slot.{Standing, at}
-use Rattle.phy.specs.Round.{slots, withNodes, delivered, participants, coverage, round}
-use Rattle.phy.specs.View.{nodesOf, setupOf, standingOf}
-use Rattle.phy.proofs.Nodes.{total-begun, total-delivered}
+use Prim.Native.Nat.{ℕ}
+use Rattle.network.specs.Reception.{Ready}
+use Rattle.phy.specs.declared.slot.Flood.{Flood}
+use Rattle.phy.specs.Round.{round}
+use Rattle.phy.specs.View.{Sound}
+use Rattle.phy.proofs.RoundEnds.{opens, closes}
 use Rattle.phy.proofs.ci.flood_identical_round.Statement.{statement}
 use Rattle.phy.proofs.ci.flood_identical_round.Tie as tie
+
+numbers-requires : tie.Need-numbers-requires
+numbers-requires c κs = search needs
 
 begin-requires : tie.Need-begin-requires
 begin-requires c κs = search needs
 
 slots-requires : tie.Need-slots-requires
 slots-requires c κs =
-    let start = c .before .before .before .before in
-    let s = start .pre .0 in
-    let g = start .args .settings in
-    let opened = c .before .begin .ensures in (
+    let start = c .before .before .before .before .before .before .before .before .before .before .before .before .before in
+    let a = start .args in
+    let pre = start .pre in
+    let g = a .settings in
+    let opened = c .before .before .before .before .before .before .begin .ensures in
+    let stands = opens (g .nodes) (g .repeats) (a .initiator .0) (a .packet) (pre .1) (omega (arith, pre .0 .few)) (omega (arith, pre .0 .few, pre .1, pre .3)) (c .before .before .before .before .before .before .before .before .before .numbers .ensures) (opened .0) (opened .1) (opened .2) (pre .5 .3) in (
+      subst⁻¹ (Sound g) (opened .0) (record { few = pre .0 .few; interval = pre .0 .interval; attempts = pre .0 .attempts; successes = pre .0 .successes; next = pre .0 .next }),
+      omega (arith, pre .2, ap (λ (z : Flood). z .slot .0) (opened .0)),
+      omega (arith, pre .3, ap length (opened .1)),
       record {
-        few = s .few;
-        interval = s .interval;
-        right = opened .1;
-        counted = λ k h. ap (λ (l : List Node). total (at l k)) (opened .0) ∙ total-begun (g .nodes) (g .repeats) (start .args .initiator .0) (start .args .packet) _ k h ∙ s .counted k h;
-        attempts = s .attempts;
-        successes = s .successes;
-        next = s .next;
+        seed = pre .5 .0;
+        packets = _;
+        standing = _;
+        ready = subst⁻¹ (λ (z : Flood). Ready (g .rate) (pre .5 .0) (z .attempts) (z .source)) (opened .0) (pre .5 .2);
+        stands = stands;
       },
-      start .pre .1,
     )
 
 deliver-requires : tie.Need-deliver-requires
-deliver-requires c κs = search needs
+deliver-requires c κs =
+    let start = c .before .before .before .before .before .before .before .before .before .before .before .before .before .before .before .before .before .before .before .before in
+    (start .pre .0 .few, ap length (c .before .before .before .before .before .before .before .before .before .before .before .before .before .before .before .before .numbers .ensures), omega (arith, start .pre .4, c .before .before .before .before .before .before .before .before .before .before .before .before .before .begin .ensures .2 .size))
 
 same-length : tie.Need-same-length
 same-length c = search needs
 
+same-length-2 : tie.Need-same-length-2
+same-length-2 c = search needs
+
+same-length-3 : tie.Need-same-length-3
+same-length-3 c = search needs
+
 returns : tie.Need-returns
 unfolding round
 returns c =
-    let start = c .before .before .before .before .before .before .before .before .before .before in
+    let start = c .before .before .before .before .before .before .before .before .before .before .before .before .before .before .before .before .before .before .before .before .before .before .before in
     let a = start .args in
-    let n = a .settings .nodes in
-    let opened = c .before .before .before .before .before .before .before .begin .ensures in
-    let run = c .before .before .before .before .before .slots .ensures in
-    let ended = c .before .before .before .before .before .slots .result in
-    let done = c .before .deliver .ensures in
+    let pre = start .pre in
+    let g = a .settings in
+    let n = g .nodes in
+    let first = a .initiator .0 in
+    let key = c .before .before .before .before .before .before .before .before .before .before .before .before .before .before .before .before .before .before .before .numbers .ensures in
+    let opened = c .before .before .before .before .before .before .before .before .before .before .before .before .before .before .before .before .begin .ensures in
+    let run = c .before .before .before .before .before .before .before .before .before .slots .ensures in
+    let ended = c .before .before .before .before .before .before .before .before .before .slots .result in
+    let done = c .before .before .deliver .ensures in
+    let same-ready : (seed : ℕ) → Ready (g .rate) seed (a .flood .attempts) (a .flood .source) → Ready (g .rate) seed (c .before .before .before .before .before .before .before .before .before .before .before .before .before .before .before .before .begin .result .attempts) (c .before .before .before .before .before .before .before .before .before .before .before .before .before .before .before .before .begin .result .source)
+    = λ seed r. subst⁻¹ (λ (z : Flood). Ready (g .rate) seed (z .attempts) (z .source)) (opened .0) r in
     record {
-      sound = record {
-        few = run .sound .few;
-        interval = run .sound .interval;
-        right = done .1;
-        counted = λ k h. ap (λ (l : List Node). total (at l k)) (done .0) ∙ total-delivered n (a .packet) (nodesOf n (ended .radios)) k h ∙ run .sound .counted k h;
-        attempts = run .sound .attempts;
-        successes = run .sound .successes;
-        next = run .sound .next;
-      };
-      slots = run .slots;
+      sound = record { few = run .sound .few; interval = run .sound .interval; attempts = run .sound .attempts; successes = run .sound .successes; next = run .sound .next };
+      slots = omega (arith, run .slots, ap (λ (z : Flood). z .slot .0) (opened .0));
+      room = run .room ∙ ap length (opened .1) ∙ length-set (now (a .left)) first (g .repeats);
+      held = done .size ∙ opened .2 .size;
       size = run .size;
-      meets = λ seed ready.
-          let g = setupOf (a .settings) (now (a .rows)) seed in
-          let before = standingOf n (a .flood) (now (a .buffer)) in
-          let m = run .meets seed ready in
-          let last = m .0 ∙ ap (λ (l : List Node). slots g (a .limit) (withNodes l before)) (opened .0) in
-          let nodes = done .0 ∙ ap (λ (s : Standing). delivered n (a .packet) (s .nodes)) last in
-          let part = done .2 ∙ ap (participants n (a .initiator .0)) nodes in
-          let covered = done .3 ∙ ap (coverage n (a .packet)) nodes in
-          ((λ i. record { after = withNodes (nodes i) (last i); part = part i; covered = covered i }), m .1);
+      ready = λ seed r. run .ready seed (same-ready seed r);
+      stands = λ seed r s st.
+          let there = opens n (g .repeats) first (a .packet) (pre .1) (omega (arith, pre .0 .few)) (omega (arith, pre .0 .few, pre .1, pre .3)) key (opened .0) (opened .1) (opened .2) st in
+          closes n first (a .packet) (omega (arith, pre .0 .few)) key refl done (run .stands seed (same-ready seed r) _ _ there);
     }
 
 pub flood-identical-round-spec : {M : Type 1} → statement M
 flood-identical-round-spec =
-    tie.close (tie.spec begin-requires slots-requires deliver-requires same-length returns)
+    tie.close
+    (tie.spec
+    numbers-requires
+    begin-requires
+    slots-requires
+    deliver-requires
+    same-length
+    same-length-2
+    same-length-3
+    returns)

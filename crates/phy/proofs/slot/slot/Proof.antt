@@ -1,24 +1,21 @@
-use Prim.Native.Nat.{_*_, ℕ, suc, _+_}
-use mathlib.Core.Path.{refl, subst⁻¹, _≡_, sym, ap, _∙_}
-use mathlib.Core.List.{List}
+use Prim.Native.Nat.{suc, _*_}
+use mathlib.Core.Path.{_≡_, subst⁻¹}
 use native.Mathlib.Omega.{arith}
 use borrow.Author.Needs.{needs}
-use lib.Seq.{getD-take}
 use denote.Ref.{now}
-use Rattle.phy.specs.Slot.{Shots, Tries, snapshot, ticked, moved, triesIn, at, takeWhile, slotStep}
-use Rattle.phy.specs.View.{triesOf, setupOf, nodesOf, shotOf, shotsOf}
-use Rattle.phy.specs.declared.node.Node.{Node}
-use Rattle.phy.specs.Node.{new, total}
-use Rattle.phy.proofs.Nodes.{total-slot}
-use Rattle.phy.proofs.Slots.{awake-few, listening-lt, shot-is, tries-are}
+use Rattle.phy.specs.Slot.{Shots}
+use Rattle.phy.specs.View.{shotsIn}
+use Rattle.phy.proofs.Slots.{awake-few, listening-lt}
 use Rattle.phy.proofs.Snapshots.{multiples}
+use Rattle.phy.proofs.Steps.{few-slots, slot-stands}
 use Rattle.phy.proofs.slot.slot.Statement.{statement}
 use Rattle.phy.proofs.slot.slot.Tie as tie
 
 shown-requires : tie.Need-shown-requires
 shown-requires c κs =
     let start = c .before .before .before in
-    awake-few (start .args .settings .nodes) (start .args .x .radios) (start .pre .0 .right)
+    let st = start .pre .3 .stands in
+    awake-few (start .args .settings .nodes) (start .pre .3 .standing .nodes) (start .args .x .listening) (start .args .x .flooding) (st .listening) (st .flooding)
 
 take-snapshots-requires : tie.Need-take-snapshots-requires
 take-snapshots-requires c κs = search needs
@@ -27,58 +24,65 @@ attempts-requires : tie.Need-attempts-requires
 attempts-requires c κs =
     let start = c .before .before .before .before .before .before .before .before .before in
     let s = start .pre .0 in
-    (s .few, listening-lt (start .args .settings .nodes) (start .args .x .radios) (s .right), omega (arith, s .attempts, start .pre .1), omega (arith, s .successes, start .pre .1))
+    let slot = start .pre .1 in
+    let met = start .pre .3 in
+    (s .few, listening-lt (start .args .settings .nodes) (met .standing .nodes) (start .args .x .listening) (start .args .x .flooding) (met .stands .listening) (met .stands .flooding), omega (arith, s .attempts, slot), omega (arith, s .successes, slot))
+
+cast-advance : tie.Need-cast-advance
+cast-advance c = search needs
 
 advance-requires : tie.Need-advance-requires
-advance-requires c κs =
-    let start = c .before .before .before .before .before .before .before .before .before .before in
-    let s = start .pre .0 in
-    let n = start .args .settings .nodes in (
-      s .few,
-      s .right .room,
-      λ k h. let counted = ap total (sym (getD-take n (start .args .x .radios .at) k new h)) ∙ s .counted k h in omega (arith, counted, start .pre .1),
-    )
+advance-requires c κs = search needs
 
-add-t21 : tie.Need-add-t21
-add-t21 c = search needs
+add-t22 : tie.Need-add-t22
+add-t22 c =
+    let start = c .before .before .before .before .before .before .before .before .before .before .before .before .before .before .before .before .before .before in
+    omega (arith, few-slots (start .args .settings .nodes) (start .pre .0 .few) (start .pre .1) (start .pre .3 .stands) (c .before .before .before .before .before .before .before .before .before .before .before .before .before .before .shown .ensures) .0)
+
+add-t23 : tie.Need-add-t23
+add-t23 c =
+    let start = c .before .before .before .before .before .before .before .before .before .before .before .before .before .before .before .before .before .before .before .before in
+    omega (arith, few-slots (start .args .settings .nodes) (start .pre .0 .few) (start .pre .1) (start .pre .3 .stands) (c .before .before .before .before .before .before .before .before .before .before .before .before .before .before .before .before .shown .ensures) .1)
+
+add-t24 : tie.Need-add-t24
+add-t24 c =
+    let start = c .before .before .before .before .before .before .before .before .before .before .before .before .before .before .before .before .before .before .before .before .before .before in
+    omega (arith, few-slots (start .args .settings .nodes) (start .pre .0 .few) (start .pre .1) (start .pre .3 .stands) (c .before .before .before .before .before .before .before .before .before .before .before .before .before .before .before .before .before .before .shown .ensures) .2)
+
+add-t25 : tie.Need-add-t25
+add-t25 c = omega (arith, c .before .before .before .before .before .before .before .before .before .before .before .before .before .before .before .before .before .before .before .before .before .before .before .pre .1)
 
 same-length : tie.Need-same-length
 same-length c = search needs
 
+same-length-2 : tie.Need-same-length-2
+same-length-2 c = c .before .before .before .before .before .before .before .before .before .before .before .before .before .before .before .before .before .take-snapshots .kept .1 .1 .1 .1 .0
+
 returns : tie.Need-returns
-unfolding slotStep
 returns c =
-    let start = c .before .before .before .before .before .before .before .before .before .before .before .before .before in
-    let s = start .pre .0 in
+    let start = c .before .before .before .before .before .before .before .before .before .before .before .before .before .before .before .before .before .before .before .before .before .before .before in
+    let sound = start .pre .0 in
     let g = start .args .settings in
     let x = start .args .x in
-    let n = g .nodes in
-    let nodes = nodesOf n (x .radios) in
-    let taken = c .before .before .before .before .before .before .before .take-snapshots in
-    let tried = c .before .before .before .attempts in
-    let after = c .before .before .advance .ensures in
-    let before : Shots = record { next = x .«next_snapshot» .0; count = x .snapshots; buffer = now (start .args .buffer) } in
-    let shots : shotsOf (taken .result) (taken .last .1 .1 .1 .1 .0) ≡ takeWhile (g .interval) (snapshot n (g .progress) (ticked n nodes)) (x .slot .0) (suc (x .slot .0)) before
-    = taken .ensures ∙ ap (λ (h : ℕ → List ℕ). takeWhile (g .interval) h (x .slot .0) (suc (x .slot .0)) before)
-    (ap shotOf (c .before .before .before .before .before .before .before .before .before .shown .ensures) ∙ shot-is n (x .radios) (s .right) (g .progress)) in
+    let seen = c .before .before .before .before .before .before .before .before .before .before .before .before .before .before .before .before .before .before .before .shown in
+    let taken = c .before .before .before .before .before .before .before .before .before .before .before .before .before .before .before .before .before .take-snapshots in
+    let tried = c .before .before .before .before .before .before .before .before .before .before .before .before .before .attempts in
+    let adv = c .before .before .before .before .before .before .before .before .before .advance in
+    let before : Shots = shotsIn x (now (start .args .buffer)) in
     record {
       sound = record {
-        few = s .few;
-        interval = s .interval;
-        right = after .1;
-        counted = λ k h. ap (λ (l : List Node). total (at l k)) (after .0) ∙ total-slot n (g .repeats) _ nodes k h ∙ ap (λ (t : ℕ). t + 1) (s .counted k h);
-        attempts = omega (arith, s .attempts, s .few, tried .ensures .attempts);
-        successes = omega (arith, s .successes, s .few, tried .ensures .successes);
-        next = subst⁻¹ (λ (y : Shots). y .next ≡ y .count * g .interval) shots (multiples (g .interval) _ (x .slot .0) (suc (x .slot .0)) before (s .next));
+        few = sound .few;
+        interval = sound .interval;
+        attempts = omega (arith, sound .attempts, sound .few, tried .ensures .attempts);
+        successes = omega (arith, sound .successes, sound .few, tried .ensures .successes);
+        next = subst⁻¹ (λ (y : Shots). y .next ≡ y .count * g .interval) (taken .ensures) (multiples (g .interval) _ (x .slot .0) (suc (x .slot .0)) before (sound .next));
       };
       slots = omega arith;
+      room = adv .ensures .size;
       size = taken .kept .1 .1 .1 .1 .0;
-      meets = λ seed ready.
-          let h = tried .ensures .tried seed ready in
-          let tries : triesOf (tried .result) ≡ triesIn (setupOf g (now (start .args .rows)) seed) (ticked n nodes) (x .attempts) (x .successes)
-          = h .0 ∙ tries-are n (x .radios) (s .right) (setupOf g (now (start .args .rows)) seed) (x .attempts) (x .successes) refl in
-          let moves = after .0 ∙ ap (λ (t : Tries). moved n (g .repeats) (t .reached) (ticked n nodes)) tries in
-          ((λ i. record { nodes = moves i; attempts = tries i .attempts; successes = tries i .successes; slot = x .slot .0 + 1; shots = shots i }), h .1);
+      ready = λ seed ready. tried .ensures .tried seed ready .1;
+      stands = λ seed ready h s st.
+          slot-stands g (now (start .args .rows)) seed x (now (start .args .left)) _ h (now (start .args .buffer)) _ s st (seen .result) (seen .ensures) (tried .result) (tried .ensures .tried seed ready .0) (adv .result) (adv .ensures) (taken .result) (taken .ensures) _;
     }
 
 pub slot-spec : {M : Type 1} → statement M
@@ -88,7 +92,12 @@ slot-spec =
     shown-requires
     take-snapshots-requires
     attempts-requires
+    cast-advance
     advance-requires
-    add-t21
+    add-t22
+    add-t23
+    add-t24
+    add-t25
     same-length
+    same-length-2
     returns)

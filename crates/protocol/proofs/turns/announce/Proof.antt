@@ -14,12 +14,28 @@ greatest-quorum-requires : tie.Need-greatest-quorum-requires
 greatest-quorum-requires c κs = search needs
 
 commit-to-requires : tie.Need-commit-to-requires
-commit-to-requires c κs = (c .before .pre .0, rw (c .greatest-quorum .ensures) (quorum-below 64 (c .before .args .n) (c .before .pre .0)))
+commit-to-requires c κs =
+    let s = c .before .before .before .before in
+    (s .pre .0, rw (c .greatest-quorum .ensures) (quorum-below 64 (s .args .n) (s .pre .0)))
+
+add-last-of : tie.Need-add-last-of
+add-last-of c = search needs
+
+mul-last-of : tie.Need-mul-last-of
+mul-last-of c = search needs
+
+slice-read-last-of : tie.Need-slice-read-last-of
+slice-read-last-of c = search needs
+
+last-of-requires : tie.Need-last-of-requires
+last-of-requires c κs = search needs
 
 votes-of-requires : tie.Need-votes-of-requires
 votes-of-requires c κs =
-    let q = c .before .before in
-    c .before .commit-to .ensures .next .kept 64 (rw (q .greatest-quorum .ensures) (quorum-below 64 (q .before .args .n) (q .before .pre .0))) (q .before .pre .0)
+    let d = c .before .before .before .before .before in
+    let q = d .before in
+    let s = q .before .before .before .before in
+    d .commit-to .ensures .next .kept 64 (rw (q .greatest-quorum .ensures) (quorum-below 64 (s .args .n) (s .pre .0))) (s .pre .0)
 
 vote-of-requires : tie.Need-vote-of-requires
 vote-of-requires c κs = search needs
@@ -27,34 +43,40 @@ vote-of-requires c κs = search needs
 joined-requires : tie.Need-joined-requires
 joined-requires c κs = search needs
 
+same-length : tie.Need-same-length
+same-length c = search needs
+
 returns : tie.Need-returns
 unfolding announce
 returns c =
-    let d = c .before .before .before .before in
+    let d = c .before .before .before .before .before .before .before .before in
     let q = d .before in
-    let a = q .before .args in
+    let a = q .before .before .before .before .args in
+    let x = view (a .states .now) (a .at) in
     let e = q .greatest-quorum .ensures in
     let n = d .commit-to .ensures .next in
-    let is : view (d .commit-to .result .state) ≡ commitTo (accepted (a .n) (view (a .s))) (view (a .s)) =
-    n .is ∙ ap (λ (l : LastAccepted). commitTo l (view (a .s))) e in
-    let flags : c .joined .result ≡ union (votesOf (commitTo (accepted (a .n) (view (a .s))) (view (a .s)) .pending (a .current .0))) (vote (a .node .0)) =
+    let is : view (d .commit-to .last .0) (a .at) ≡ commitTo (accepted (a .n) x) x =
+    n .is ∙ ap (λ (l : LastAccepted). commitTo l x) e in
+    let last : c .before .before .before .before .last-of .result ≡ commitTo (accepted (a .n) x) x .last =
+    c .before .before .before .before .last-of .ensures ∙ ap (λ (y : State). y .last) is in
+    let flags : c .joined .result ≡ union (votesOf (commitTo (accepted (a .n) x) x .pending (a .current .0))) (vote (a .node .0)) =
     c .joined .ensures ∙
     ap₂ union
-    (c .before .before .votes-of .ensures ∙ ap (λ (x : State). votesOf (x .pending (a .current .0))) is)
+    (c .before .before .votes-of .ensures ∙ ap (λ (y : State). votesOf (y .pending (a .current .0))) is)
     (c .before .vote-of .ensures) in
     record {
-      next = record { kept = λ k u h. n .kept k (rw e (quorum-below 64 (a .n) h)) h; is = is };
+      next = record { wrote = n .wrote; kept = λ k u h. n .kept k (rw e (quorum-below 64 (a .n) h)) h; is = is };
       packet = λ j.
           record {
             «current_term» = a .current;
-            «last_accepted_term» = is j .last;
+            «last_accepted_term» = last j;
             «flags_bitmap» = flags j;
             «nack_term» = a .nack;
             sender = a .node;
             «proposal_data» = a .«data»;
             piggyback = a .piggyback;
           };
-      newly = d .commit-to .ensures .newly ∙ ap (λ (l : LastAccepted). termSet (newlyTo l (logOf (a .s)))) e;
+      newly = d .commit-to .ensures .newly ∙ ap (λ (l : LastAccepted). termSet (newlyTo l (logOf (a .states .now) (a .at)))) e;
     }
 
 pub announce-spec : {M : Type 1} → statement M
@@ -63,7 +85,12 @@ announce-spec =
     (tie.spec
     greatest-quorum-requires
     commit-to-requires
+    add-last-of
+    mul-last-of
+    slice-read-last-of
+    last-of-requires
     votes-of-requires
     vote-of-requires
     joined-requires
+    same-length
     returns)

@@ -16,18 +16,23 @@ enum-known-d c = search needs
 
 hold-new-requires : tie.Need-hold-new-requires
 hold-new-requires c κs =
-    let b = c .before .before .before in
-    (b .pre .0, subst (proposalBelow 64 (b .args .term .0)) (c .before .d .given .1) (b .pre .1))
+    let b = c .before .before .before .before .before in
+    (b .pre .0, subst (proposalBelow 64 (b .args .term .0)) (c .before .before .d .given .1) (b .pre .1))
 
 returns : tie.Need-returns
 unfolding takeData
 returns c = rw (c .enum-told .given .1) (next-same refl)
 
+same-length : tie.Need-same-length
+same-length c = search needs
+
 returns-2 : tie.Need-returns-2
 unfolding takeData
 returns-2 c =
-    let n = c .hold-new .ensures in
-    rw (c .before .before .d .given .1) (record { kept = λ d p k. n .kept d (p .0) k; is = n .is })
+    let n = c .before .before .hold-new .ensures in
+    rw (c .before .before .before .before .before .d .given .1)
+    (record { wrote = n .wrote; kept = λ d p k. n .kept d (p .0) k; is = n .is })
 
 pub take-data-spec : {M : Type 1} → statement M
-take-data-spec = tie.close (tie.spec enum-told enum-known-d hold-new-requires returns returns-2)
+take-data-spec =
+    tie.close (tie.spec enum-told enum-known-d hold-new-requires returns same-length returns-2)

@@ -1,54 +1,61 @@
-use Prim.Native.Nat.{_*_, _-_}
-use mathlib.Core.Path.{sym, ap, _∙_}
-use native.Mathlib.Nat.{zero-add}
+use Prim.Native.Nat.{ℕ, _+_, _*_, _-_}
+use mathlib.Core.Path.{refl, sym, ap, _∙_}
 use native.Mathlib.Omega.{arith}
+use denote.Ref.{now}
+use lib.ListN.{getD}
 use lib.Seq.{sets}
-use Rattle.sim.proofs.Copies.{Copied, copied-none, copied-more, copied-all, copied-length, records-few, record-numbers}
+use Rattle.network.specs.Table.{tabulate}
+use Rattle.network.proofs.Tables.{length-tabulate, getD-tabulate}
+use Rattle.sim.proofs.Copies.{Copied, copied-none, copied-more, copied-all, copied-length, numbers-are}
 use Rattle.sim.proofs.buffers.write_records.Statement.{statement}
 use Rattle.sim.proofs.buffers.write_records.Tie as tie
 
 abbrev Inv-loop : tie.InvT-loop
-Inv-loop out₀ numbers count k₀ out k = Copied numbers out₀ 0 count out k
+Inv-loop table count out₀ n k₀ out k = Copied (tabulate n (λ (m : ℕ). getD table (64 + m) 0)) out₀ 0 n out k
 
 abbrev μ-loop : tie.MeasureT-loop
-μ-loop out₀ numbers count k₀ out k = count - k
+μ-loop table count out₀ n k₀ out k = n - k
 
-mul-count : tie.Need-mul-count Inv-loop μ-loop
-mul-count c = record { fits = omega (arith, records-few (c .before .pre .0)) }
+mul-n : tie.Need-mul-n Inv-loop μ-loop
+mul-n c = omega (arith, c .pre .0)
 
 loop-holds : tie.Need-loop-holds Inv-loop μ-loop
-loop-holds c = let a = c .before .args in copied-none (a .records .numbers) (a .out .now) 0 (3 * a .records .count)
+loop-holds c = copied-none _ _ _ _
+
+add-out : tie.Need-add-out Inv-loop μ-loop
+add-out c = omega (arith, c .before .before .pre .0)
 
 mul-out : tie.Need-mul-out Inv-loop μ-loop
-mul-out c = record { fits = omega (arith, records-few (c .before .before .before .pre .0)) }
+mul-out c = omega (arith, c .before .before .pre .0)
 
-array-read-out : tie.Need-array-read-out Inv-loop μ-loop
-array-read-out c = omega (arith, records-few (c .before .before .before .pre .0))
+shared-slice-read-out : tie.Need-shared-slice-read-out Inv-loop μ-loop
+shared-slice-read-out c = omega (arith, c .before .before .before .pre .0)
 
 mul-out-2 : tie.Need-mul-out-2 Inv-loop μ-loop
-mul-out-2 c = record { fits = omega (arith, records-few (c .before .before .before .pre .0)) }
+mul-out-2 c = omega (arith, c .before .before .before .pre .0)
 
 slice-write-out : tie.Need-slice-write-out Inv-loop μ-loop
-slice-write-out c = omega (arith, records-few (c .before .before .before .pre .0), copied-length (c .before .loop .inv), c .before .before .before .pre .1)
+slice-write-out c = omega (arith, c .before .before .before .pre .1, copied-length (c .before .before .loop .inv))
 
 add-k : tie.Need-add-k Inv-loop μ-loop
-add-k c = record { fits = omega (arith, records-few (c .before .before .before .pre .0)) }
+add-k c = omega (arith, c .before .before .before .pre .0)
 
 loop-less : tie.Need-loop-less Inv-loop μ-loop
 loop-less c = omega arith
 
 loop-again : tie.Need-loop-again Inv-loop μ-loop
 loop-again c =
-    let p = c .before .before .before .pre .0 in
-    copied-more _ (c .before .loop .inv) (c .loop-test .taken) (omega (arith, records-few p, p .room)) (sym (zero-add _))
+    let a = c .before .before .before .args in
+    let l = c .before .before .loop in
+    copied-more (l .inv) (omega arith) (omega (arith, length-tabulate (3 * a .count) (λ (m : ℕ). getD (a .table .now) (64 + m) 0))) (omega arith) (sym (getD-tabulate (3 * a .count) (λ (m : ℕ). getD (a .table .now) (64 + m) 0) (l .k) 0 (omega arith)))
 
 same-length : tie.Need-same-length Inv-loop μ-loop
 same-length c = copied-length (c .before .loop .inv)
 
 returns : tie.Need-returns Inv-loop μ-loop
 returns c =
-    let a = c .before .before .before .args in
-    copied-all (c .before .loop .inv) (c .loop-test .left) ∙ ap (sets (a .out .now) 0) (sym (record-numbers (c .before .before .before .pre .0)))
+    let a = c .before .before .args in
+    copied-all (c .before .loop .inv) (omega arith) (sym (length-tabulate _ _)) ∙ ap (sets (now (a .out)) 0) (sym (numbers-are (now (a .table)) (a .count)))
 
 pub write-records-spec : {M : Type 1} → statement M
 write-records-spec =
@@ -56,10 +63,11 @@ write-records-spec =
     (tie.spec
     Inv-loop
     μ-loop
-    mul-count
+    mul-n
     loop-holds
+    add-out
     mul-out
-    array-read-out
+    shared-slice-read-out
     mul-out-2
     slice-write-out
     add-k

@@ -1,65 +1,81 @@
 use Prim.Native.Nat.{_^_, _<_}
 use native.Mathlib.Omega.{arith}
 use borrow.Author.Needs.{needs}
-use Rattle.sim.proofs.Filing.{room-left, added-list, added-filed}
+use denote.Ref.{now}
+use lib.ListN.{length-set}
+use Rattle.sim.proofs.Filing.{room-left, files-one}
 use Rattle.sim.proofs.records.add.Statement.{statement}
 use Rattle.sim.proofs.records.add.Tie as tie
 
 mul-at : tie.Need-mul-at
-mul-at c = let a = c .args in omega (arith, room-left (a .x) (a .id) (c .pre .0) (c .pre .1) (c .pre .2))
+mul-at c = let a = c .args in omega (arith, room-left (a .x) (now (a .table)) (a .id) (c .pre .0) (c .pre .1) (c .pre .2), c .pre .0 .room)
 
-mul-r : tie.Need-mul-r
-mul-r c = let a = c .args in omega (arith, room-left (a .x) (a .id) (c .pre .0) (c .pre .1) (c .pre .2))
+add-at : tie.Need-add-at
+add-at c = let a = c .args in omega (arith, room-left (a .x) (now (a .table)) (a .id) (c .pre .0) (c .pre .1) (c .pre .2), c .pre .0 .room)
 
-element-write-r : tie.Need-element-write-r
-element-write-r c = let a = c .args in omega (arith, room-left (a .x) (a .id) (c .pre .0) (c .pre .1) (c .pre .2))
+mul-start : tie.Need-mul-start
+mul-start c = search needs
 
-add-r : tie.Need-add-r
-add-r c = let a = c .args in omega (arith, room-left (a .x) (a .id) (c .pre .0) (c .pre .1) (c .pre .2))
+slice-read-start : tie.Need-slice-read-start
+slice-read-start c = search needs
 
-mul-r-2 : tie.Need-mul-r-2
-mul-r-2 c = let a = c .args in omega (arith, room-left (a .x) (a .id) (c .pre .0) (c .pre .1) (c .pre .2))
+mul-table : tie.Need-mul-table
+mul-table c = let a = c .before .args in omega (arith, room-left (a .x) (now (a .table)) (a .id) (c .before .pre .0) (c .before .pre .1) (c .before .pre .2), c .before .pre .0 .room)
 
-element-write-r-2 : tie.Need-element-write-r-2
-element-write-r-2 c = let a = c .args in omega (arith, room-left (a .x) (a .id) (c .pre .0) (c .pre .1) (c .pre .2))
+slice-write-table : tie.Need-slice-write-table
+slice-write-table c = let a = c .before .args in omega (arith, room-left (a .x) (now (a .table)) (a .id) (c .before .pre .0) (c .before .pre .1) (c .before .pre .2), c .before .pre .0 .room)
 
-add-r-2 : tie.Need-add-r-2
-add-r-2 c = let a = c .args in omega (arith, room-left (a .x) (a .id) (c .pre .0) (c .pre .1) (c .pre .2))
+add-table : tie.Need-add-table
+add-table c = let a = c .before .args in omega (arith, room-left (a .x) (now (a .table)) (a .id) (c .before .pre .0) (c .before .pre .1) (c .before .pre .2), c .before .pre .0 .room)
 
-mul-r-3 : tie.Need-mul-r-3
-mul-r-3 c = let a = c .args in omega (arith, room-left (a .x) (a .id) (c .pre .0) (c .pre .1) (c .pre .2))
+mul-table-2 : tie.Need-mul-table-2
+mul-table-2 c = let a = c .before .args in omega (arith, room-left (a .x) (now (a .table)) (a .id) (c .before .pre .0) (c .before .pre .1) (c .before .pre .2), c .before .pre .0 .room)
 
-element-write-r-3 : tie.Need-element-write-r-3
-element-write-r-3 c = let a = c .args in omega (arith, room-left (a .x) (a .id) (c .pre .0) (c .pre .1) (c .pre .2))
+slice-write-table-2 : tie.Need-slice-write-table-2
+slice-write-table-2 c = let a = c .before .args in simp length-set (omega (arith, room-left (a .x) (now (a .table)) (a .id) (c .before .pre .0) (c .before .pre .1) (c .before .pre .2), c .before .pre .0 .room))
 
-add-r-3 : tie.Need-add-r-3
-add-r-3 c = let a = c .before .args in omega (arith, room-left (a .x) (a .id) (c .before .pre .0) (c .before .pre .1) (c .before .pre .2))
+add-table-2 : tie.Need-add-table-2
+add-table-2 c = let a = c .before .args in omega (arith, room-left (a .x) (now (a .table)) (a .id) (c .before .pre .0) (c .before .pre .1) (c .before .pre .2), c .before .pre .0 .room)
 
-shl-r : tie.Need-shl-r
-shl-r c = search needs
+mul-table-3 : tie.Need-mul-table-3
+mul-table-3 c = let a = c .before .args in omega (arith, room-left (a .x) (now (a .table)) (a .id) (c .before .pre .0) (c .before .pre .1) (c .before .pre .2), c .before .pre .0 .room)
+
+slice-write-table-3 : tie.Need-slice-write-table-3
+slice-write-table-3 c = let a = c .before .args in simp length-set (omega (arith, room-left (a .x) (now (a .table)) (a .id) (c .before .pre .0) (c .before .pre .1) (c .before .pre .2), c .before .pre .0 .room))
+
+add-t10 : tie.Need-add-t10
+add-t10 c = let a = c .before .before .args in omega (arith, room-left (a .x) (now (a .table)) (a .id) (c .before .before .pre .0) (c .before .before .pre .1) (c .before .before .pre .2), c .before .before .pre .0 .room)
+
+shl-t15 : tie.Need-shl-t15
+shl-t15 c = search needs
+
+same-length : tie.Need-same-length
+same-length c = search needs
 
 returns : tie.Need-returns
 returns c =
-    let s = c .before .before in
+    let s = c .before .before .before in
     let a = s .args in
-    let word : a .x .recorded < 2 ^ 64 = omega arith in (
-      added-filed (a .x) (a .id) (a .start) (a .end) (s .pre .0) (s .pre .1) word (s .pre .2),
-      added-list (a .x) (a .id) (a .start) (a .end) (s .pre .0) (s .pre .1) word (s .pre .2),
-    )
+    let word : a .x .terms < 2 ^ 64 = omega arith in
+    files-one (a .x) (now (a .table)) (a .id) (a .end) (s .pre .0) (s .pre .1) word (s .pre .2)
 
 pub add-spec : {M : Type 1} → statement M
 add-spec =
     tie.close
     (tie.spec
     mul-at
-    mul-r
-    element-write-r
-    add-r
-    mul-r-2
-    element-write-r-2
-    add-r-2
-    mul-r-3
-    element-write-r-3
-    add-r-3
-    shl-r
+    add-at
+    mul-start
+    slice-read-start
+    mul-table
+    slice-write-table
+    add-table
+    mul-table-2
+    slice-write-table-2
+    add-table-2
+    mul-table-3
+    slice-write-table-3
+    add-t10
+    shl-t15
+    same-length
     returns)

@@ -1,35 +1,34 @@
-use Prim.Native.Nat.{ℕ, _-_, _≤_}
-use mathlib.Core.Path.{_≡_, refl, sym, ap, subst, _∙_}
+use Prim.Native.Nat.{_-_, _≤_}
+use mathlib.Core.Path.{_≡_, sym, _∙_}
 use mathlib.Core.Bool.{true, false}
-use mathlib.Core.List.{List, [], _∷_, append-nil}
 use mathlib.Core.Logic.{⊎-elim}
 use native.Mathlib.Omega.{arith}
 use borrow.Author.Tests.{eq-eqb, ne-eqb}
-use lib.ListN.{length}
 use Rattle.network.specs.Graph.{has}
 use Rattle.phy.specs.Slot.{among}
-use Rattle.phy.proofs.Attempts.{among-more}
-use Rattle.sim.specs.Round.{recordAll}
-use Rattle.sim.specs.View.{Filed, recordsOf}
-use Rattle.sim.proofs.Filing.{recordAll-append}
+use Rattle.sim.specs.View.{Files}
+use Rattle.sim.proofs.Filing.{files-none, files-at, files-as, files-more, files-all-known}
 use Rattle.sim.proofs.records.record_all.Statement.{statement}
 use Rattle.sim.proofs.records.record_all.Tie as tie
 
 abbrev Inv-loop : tie.InvT-loop
-Inv-loop starts end newly r₀ t₀ r t = (t ≤ 64) × Filed r × (length starts ≡ 64) × (recordsOf r ≡ recordAll starts end (among t (has newly)) (recordsOf r₀))
+Inv-loop table₀ end newly r₀ t₀ table r t = (t ≤ 64) × Files end (among t (has newly)) r₀ table₀ r table
 
 abbrev μ-loop : tie.MeasureT-loop
-μ-loop starts end newly r₀ t₀ r t = 64 - t
+μ-loop table₀ end newly r₀ t₀ table r t = 64 - t
+
+returns : tie.Need-returns Inv-loop μ-loop
+returns c = files-all-known (c .before .before .before .args .end) (c .before .before .before .args .newly) (c .before .before .before .pre) (c .if1 .taken)
 
 loop-holds : tie.Need-loop-holds Inv-loop μ-loop
-unfolding among recordAll
-loop-holds c = (omega arith, c .pre .0, c .pre .1, refl)
+unfolding among
+loop-holds c = (omega arith, files-none (c .before .before .before .pre))
 
-shr-if1 : tie.Need-shr-if1 Inv-loop μ-loop
-shr-if1 c = omega arith
+shr-if2 : tie.Need-shr-if2 Inv-loop μ-loop
+shr-if2 c = omega arith
 
 record-one-requires : tie.Need-record-one-requires Inv-loop μ-loop
-record-one-requires c κs = let l = c .before .before .loop in (l .inv .1, omega arith, l .inv .2)
+record-one-requires c κs = (c .before .before .before .loop .inv .1 .filed, omega arith)
 
 add-t : tie.Need-add-t Inv-loop μ-loop
 add-t c = omega arith
@@ -41,31 +40,20 @@ loop-again : tie.Need-loop-again Inv-loop μ-loop
 unfolding has
 loop-again c =
     let l = c .before .before .loop in
-    let a = c .before .before .before .args in
-    let more = among-more (l .t) (has (a .newly)) in
-    let same = recordAll (a .starts) (a .end) in
+    let newly = has (c .before .before .before .before .before .before .args .newly) in
     ⊎-elim
-    (λ w. (
-      omega arith,
-      subst Filed (sym (w .2)) (w .1 .ensures .0),
-      l .inv .2,
-      ap recordsOf (w .2) ∙ w .1 .ensures .1 ∙ ap (same (l .t ∷ [])) (l .inv .3) ∙ sym (recordAll-append (a .starts) (a .end) (among (l .t) (has (a .newly))) (l .t ∷ []) (recordsOf (a .x)))
-          ∙ ap (λ (ts : List ℕ). same ts (recordsOf (a .x))) (more true (eq-eqb _ 1 (w .0 .taken))),
-    ))
-    (λ w. (
-      omega arith,
-      subst Filed (sym (w .1)) (l .inv .1),
-      l .inv .2,
-      ap recordsOf (w .1) ∙ l .inv .3 ∙ ap (λ (ts : List ℕ). same ts (recordsOf (a .x))) (sym (append-nil _) ∙ more false (ne-eqb _ 1 (w .0 .left))),
-    ))
-    (c .if1 .came)
+    (λ w. (omega arith, files-as (w .5) (w .6) (files-more newly true (eq-eqb _ 1 (w .0 .taken)) (l .inv .1) (w .2 .ensures))))
+    (λ w. (omega arith, files-as (w .1) (w .2) (files-more newly false (ne-eqb _ 1 (w .0 .left)) (l .inv .1) (files-none (l .inv .1 .filed)))))
+    (c .if2 .came)
 
-returns : tie.Need-returns Inv-loop μ-loop
-returns c =
+same-length : tie.Need-same-length Inv-loop μ-loop
+same-length c = c .before .loop .inv .1 .filed .room ∙ sym (c .before .before .before .before .before .pre .room)
+
+returns-2 : tie.Need-returns-2 Inv-loop μ-loop
+returns-2 c =
     let l = c .before .loop in
-    let a = c .before .before .args in
     let e : l .t ≡ 64 = omega arith in
-    (l .inv .1, l .inv .3 ∙ ap (λ (k : ℕ). recordAll (a .starts) (a .end) (among k (has (a .newly))) (recordsOf (a .x))) e)
+    files-at (has (c .before .before .before .before .before .args .newly)) e (l .inv .1)
 
 pub record-all-spec : {M : Type 1} → statement M
 record-all-spec =
@@ -73,10 +61,12 @@ record-all-spec =
     (tie.spec
     Inv-loop
     μ-loop
+    returns
     loop-holds
-    shr-if1
+    shr-if2
     record-one-requires
     add-t
     loop-less
     loop-again
-    returns)
+    same-length
+    returns-2)

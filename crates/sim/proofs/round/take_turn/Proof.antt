@@ -1,9 +1,9 @@
-use Prim.Native.Nat.{ℕ, _+_}
+use Prim.Native.Nat.{ℕ, _+_, _*_}
 use mathlib.Core.Path.{_≡_, refl, sym, ap, subst⁻¹, _∙_}
-use mathlib.Core.List.{List}
 use native.Mathlib.Omega.{arith}
 use borrow.Author.Needs.{needs}
-use lib.ListN.{set, take}
+use denote.Ref.{now}
+use lib.ListN.{take}
 use Rattle.network.specs.Graph.{has}
 use Rattle.phy.specs.Slot.{among}
 use Rattle.phy.specs.declared.packet.Piggyback.{Piggyback}
@@ -11,31 +11,22 @@ use Rattle.protocol.specs.Turns.{Taken, participantTurn}
 use Rattle.protocol.specs.View.{view, backBelow}
 use Rattle.protocol.proofs.Kept.{kept-mono, last-mono}
 use Rattle.protocol.proofs.Chains.{carried-mono}
-use Rattle.sim.specs.Round.{stateOf, recordAll, takeTurn, latest, onePiggyback}
-use Rattle.sim.specs.View.{sharedOf, statesOf, nodeAt, recordsOf}
-use Rattle.sim.proofs.Filing.{recordAll-cong}
-use Rattle.sim.proofs.Sharing.{state-at, states-set, start-at, participant-newly, kept-set, latest-below, one-at-most}
+use Rattle.sim.specs.Round.{stateOf, takeTurn, latest, onePiggyback}
+use Rattle.sim.specs.View.{sharedOf, statesOf}
+use Rattle.sim.proofs.Filing.{files-records}
+use Rattle.sim.proofs.Sharing.{state-at, states-set, start-at, starts-same, started-same, participant-newly, kept-set, latest-below, one-at-most}
 use Rattle.sim.proofs.round.take_turn.Statement.{statement}
 use Rattle.sim.proofs.round.take_turn.Tie as tie
 
-mul-v : tie.Need-mul-v
-mul-v c = search needs
-
-element-copy-out-v : tie.Need-element-copy-out-v
-element-copy-out-v c = search needs
+mul-at : tie.Need-mul-at
+mul-at c = search needs
 
 participant-turn-requires : tie.Need-participant-turn-requires
 participant-turn-requires c κs =
-    let start = c .before .before in
+    let start = c .before .before .before .before in
     let a = start .args in
     let s = start .pre .0 .3 in
     (kept-mono (s .few) (omega arith) (s .kept .each (a .node .0) (start .pre .0 .4)), (carried-mono (s .few) (start .pre .1), omega (arith, start .pre .0 .4, start .pre .0 .5)))
-
-mul-w : tie.Need-mul-w
-mul-w c = search needs
-
-element-set-from-w : tie.Need-element-set-from-w
-element-set-from-w c = search needs
 
 record-all-requires : tie.Need-record-all-requires
 record-all-requires c κs = search needs
@@ -46,51 +37,57 @@ latest-requires c κs = search needs
 one-piggyback-requires : tie.Need-one-piggyback-requires
 one-piggyback-requires c κs = search needs
 
-add-t24 : tie.Need-add-t24
-add-t24 c =
-    let start = c .before .before .before .before .before .before .before .before .before .before in
-    omega (arith, start .pre .0 .3 .piggybacks, start .pre .0 .6, c .before .one-piggyback .ensures, one-at-most (c .before .before .before .before .before .before .before .participant-turn .result .recovery))
+add-t19 : tie.Need-add-t19
+add-t19 c =
+    let start = c .before .before .before .before .before .before .before .before .before .before .before .before .before .before in
+    omega (arith, start .pre .0 .3 .piggybacks, start .pre .0 .6, c .before .one-piggyback .ensures, one-at-most (c .before .before .before .before .before .before .before .before .before .participant-turn .result .recovery))
+
+same-length : tie.Need-same-length
+same-length c = search needs
+
+same-length-2 : tie.Need-same-length-2
+same-length-2 c = search needs
 
 returns : tie.Need-returns
 unfolding sharedOf takeTurn
 returns c =
-    let start = c .before .before .before .before .before .before .before .before .before .before in
+    let start = c .before .before .before .before .before .before .before .before .before .before .before .before .before .before in
     let a = start .args in
     let x = a .x in
     let j = a .node .0 in
-    let turn = c .before .before .before .before .before .before .before .participant-turn in
-    let filed = c .before .before .before .record-all in
+    let held = now (a .states) in
+    let turn = c .before .before .before .before .before .before .before .before .before .participant-turn in
+    let filed = c .before .before .before .before .before .record-all in
     let latest-is = c .before .before .latest .ensures in
     let one-is = c .before .one-piggyback .ensures in
     record {
       counter = refl;
       sharing = λ n k m h s. record {
         few = s .few;
-        kept = kept-set j (turn .result .state) (s .kept) (omega arith) (s .few) h (turn .ensures .kept (x .counter) (start .pre .1) (s .kept .each j h));
-        started = s .started;
-        filed = filed .ensures .0;
+        kept = kept-set j (s .kept) (omega arith) (s .few) (turn .ensures .wrote) (turn .ensures .kept (x .counter) (start .pre .1) (s .kept .each j h));
+        started = started-same (filed .ensures) (s .started);
+        filed = filed .ensures .filed;
         back = subst⁻¹ (backBelow (x .counter)) latest-is (latest-below (x .counter) (turn .result .recovery) (x .piggyback) (turn .ensures .back (x .counter) (start .pre .1) (s .kept .each j h)) (s .back));
         nacks = s .nacks;
         piggybacks = omega (arith, s .piggybacks, one-is, one-at-most (turn .result .recovery));
       };
       shared = λ n k m h s.
-          let spec : Taken = participantTurn j (a .packet) (stateOf (statesOf n (x .states)) j) in
-          let same : spec ≡ participantTurn j (a .packet) (view (nodeAt (x .states) j)) = ap (participantTurn j (a .packet)) (state-at n (x .states) j h) in
-          let states = states-set n (x .states) j (turn .result .state) h (s .kept .room) ∙ ap (set (statesOf n (x .states)) j) (turn .ensures .state ∙ sym (ap (λ (t : Taken). t .state) same)) in
+          let spec : Taken = participantTurn j (a .packet) (stateOf (statesOf n held) j) in
+          let same : spec ≡ participantTurn j (a .packet) (view held (195 * j)) = ap (participantTurn j (a .packet)) (state-at n held j h) in
+          let states = states-set n held _ j (spec .state) (s .kept) h (turn .ensures .wrote) (turn .ensures .state ∙ sym (ap (λ (t : Taken). t .state) same)) in
           let newly : among 64 (has (turn .result .newly)) ≡ spec .newly
           = ap (λ (w : ℕ). among 64 (has w)) (turn .ensures .newly)
-          ∙ participant-newly j (a .packet) (view (nodeAt (x .states) j)) (last-mono (a .packet .«last_accepted_term») (s .few) (start .pre .1 .last))
+          ∙ participant-newly j (a .packet) (view held (195 * j)) (last-mono (a .packet .«last_accepted_term») (s .few) (start .pre .1 .last))
           ∙ sym (ap (λ (t : Taken). t .newly) same) in
-          let records = filed .ensures .1
-          ∙ ap (λ (ts : List ℕ). recordAll (x .starts) (a .slot .0) ts (recordsOf (x .records))) newly
-          ∙ recordAll-cong (x .starts) (take (x .counter) (x .starts)) (a .slot .0) (spec .newly) (recordsOf (x .records)) (start-at (s .started) (s .few)) in
+          let records = files-records (take (x .counter) (now (a .table))) (filed .ensures) newly refl (start-at (s .started) (s .few)) in
           let recovered = turn .ensures .recovered ∙ sym (ap (λ (t : Taken). t .recovered) same) in
           let back = latest-is ∙ ap (λ (p : Piggyback). latest p (x .piggyback)) recovered in
           let piggybacks = ap (λ (w : ℕ). x .piggybacks + w) (one-is ∙ ap onePiggyback recovered) in
+          let starts = starts-same (filed .ensures) (x .counter) (x .counter) refl (s .few) in
           λ i. record {
             states = states i;
             counter = x .counter;
-            starts = take (x .counter) (x .starts);
+            starts = starts i;
             records = records i;
             piggyback = back i;
             nacks = x .nacks;
@@ -102,13 +99,12 @@ pub take-turn-spec : {M : Type 1} → statement M
 take-turn-spec =
     tie.close
     (tie.spec
-    mul-v
-    element-copy-out-v
+    mul-at
     participant-turn-requires
-    mul-w
-    element-set-from-w
     record-all-requires
     latest-requires
     one-piggyback-requires
-    add-t24
+    add-t19
+    same-length
+    same-length-2
     returns)

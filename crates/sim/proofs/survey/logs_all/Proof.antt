@@ -1,63 +1,44 @@
-use Prim.Native.Nat.{ℕ, _-_, _≤_}
-use mathlib.Core.Path.{_≡_, refl, sym, ap, _∙_}
-use mathlib.Core.Bool.{true}
+use Prim.Native.Nat.{ℕ, _-_, _*_, _%_, _^_, _≤_, _<_}
+use mathlib.Core.Path.{_≡_, sym, ap, subst⁻¹, _∙_}
+use native.Mathlib.Nat.{mod-eq-of-lt}
 use native.Mathlib.Omega.{arith}
-use borrow.Author.Tests.{eq-eqb, ne-eqb}
-use Rattle.network.specs.Graph.{all}
-use Rattle.network.proofs.Sets.{all-more, all-false}
-use Rattle.protocol.specs.Paxos.{logged}
-use Rattle.protocol.specs.View.{view}
+use borrow.Author.Needs.{needs}
+use lib.Dec.{eqb}
+use lib.Pow.{pow-pos}
+use Rattle.network.specs.Graph.{has, all}
+use Rattle.network.proofs.Sets.{one-shl}
+use Rattle.sim.proofs.Full.{has-all}
 use Rattle.sim.proofs.survey.logs_all.Statement.{statement}
 use Rattle.sim.proofs.survey.logs_all.Tie as tie
 
-abbrev Inv-loop : tie.InvT-loop
-Inv-loop proposals state t₀ t = (t ≤ proposals) × (all t (λ (u : ℕ). logged u (view state .log)) ≡ true)
-
-abbrev μ-loop : tie.MeasureT-loop
-μ-loop proposals state t₀ t = proposals - t
-
-loop-holds : tie.Need-loop-holds Inv-loop μ-loop
-unfolding all
-loop-holds c = (omega arith, refl)
-
-element-copy-out-if1 : tie.Need-element-copy-out-if1 Inv-loop μ-loop
-element-copy-out-if1 c = omega arith
-
-returns : tie.Need-returns Inv-loop μ-loop
+returns : tie.Need-returns
 returns c =
-    let l = c .before .before .before .loop in
-    let a = c .before .before .before .before .args in
-    sym (all-false (a .proposals) (λ (u : ℕ). logged u (view (a .t1) .log)) (l .t) (omega arith) (c .before .before .before .before .pre .0 .logged-is (l .t) ∙ ne-eqb _ 2 (c .if1 .taken)))
+    let a = c .before .args in
+    let word : a .logged < 2 ^ 64 = omega arith in
+    ap (λ (k : ℕ). eqb k (2 ^ 64 - 1)) (sym (mod-eq-of-lt word)) ∙ has-all 64 (a .logged) ∙ ap (λ (n : ℕ). all n (has (a .logged))) (sym (c .if1 .taken))
 
-add-t : tie.Need-add-t Inv-loop μ-loop
-add-t c = omega arith
+shl-result : tie.Need-shl-result
+shl-result c = search needs
 
-loop-less : tie.Need-loop-less Inv-loop μ-loop
-loop-less c = omega arith
+rem-result : tie.Need-rem-result
+rem-result c =
+    let a = c .before .args in
+    omega (arith, one-shl 64 (a .proposals) (omega (arith, c .before .pre, c .if1 .left)), pow-pos (a .proposals))
 
-loop-again : tie.Need-loop-again Inv-loop μ-loop
-loop-again c =
-    let l = c .before .before .before .loop in
-    let a = c .before .before .before .before .args in
-    (omega arith, all-more (l .t) (λ (u : ℕ). logged u (view (a .t1) .log)) (l .inv .1) (c .before .before .before .before .pre .0 .logged-is (l .t) ∙ eq-eqb _ 2 (c .if1 .left)))
+shl-result-2 : tie.Need-shl-result-2
+shl-result-2 c = search needs
 
-returns-2 : tie.Need-returns-2 Inv-loop μ-loop
+sub-result : tie.Need-sub-result
+sub-result c =
+    let a = c .before .args in
+    omega (arith, one-shl 64 (a .proposals) (omega (arith, c .before .pre, c .if1 .left)), pow-pos (a .proposals))
+
+returns-2 : tie.Need-returns-2
 returns-2 c =
-    let l = c .before .loop in
-    let a = c .before .before .args in
-    let done : l .t ≡ a .proposals = omega arith in
-    sym (l .inv .1) ∙ ap (λ (k : ℕ). all k (λ (u : ℕ). logged u (view (a .t1) .log))) done
+    let a = c .before .args in
+    let one = one-shl 64 (a .proposals) (omega (arith, c .before .pre, c .if1 .left)) in
+    ap (λ (k : ℕ). eqb (a .logged % k) (k - 1)) one ∙ has-all (a .proposals) (a .logged)
 
 pub logs-all-spec : {M : Type 1} → statement M
 logs-all-spec =
-    tie.close
-    (tie.spec
-    Inv-loop
-    μ-loop
-    loop-holds
-    element-copy-out-if1
-    returns
-    add-t
-    loop-less
-    loop-again
-    returns-2)
+    tie.close (tie.spec returns shl-result rem-result shl-result-2 sub-result returns-2)

@@ -1,0 +1,264 @@
+-- A round's begin and end, as the code keeps them. Assumes nothing.
+use Prim.Native.Nat.{ℕ, zero, suc, _+_, _-_, _*_, _%_, _^_, _≤_, _<_}
+use mathlib.Core.Path.{_≡_, refl, sym, ap, ap₂, subst, subst⁻¹, _∙_}
+use mathlib.Core.Bool.{Bool, true, false, not, cond, _&&_, _||_}
+use mathlib.Core.List.{List}
+use mathlib.Core.Logic.{⊎-elim}
+use native.Mathlib.Nat.{pow-suc, lt-of-lt-of-le}
+use native.Mathlib.Omega.{arith}
+use lib.Bits.{bitOr}
+use lib.Dec.{eqb}
+use lib.Pow.{pow-lt, pow-mono}
+use lib.ListN.{length, getD, set}
+use lib.Seq.{getD-set-same, getD-set-other}
+use borrow.Author.Tests.{eqb-true, eqb-false, not-true, not-false}
+use Rattle.network.specs.Graph.{has, setOf}
+use Rattle.network.proofs.Sets.{two, has-or, has-setOf, setOf-cong, setOf-lt, setOf-one, one-shl}
+use Rattle.network.proofs.Tables.{getD-tabulate}
+use Rattle.phy.specs.declared.ci.Delivered.{Delivered}
+use Rattle.phy.specs.declared.node.Node.{Node}
+use Rattle.phy.specs.declared.node.NodeState.{NodeState}
+use Rattle.phy.specs.declared.node.NodeState.the-variants.{Listen, Flood, Sleep}
+use Rattle.phy.specs.declared.node.Payload.{Payload}
+use Rattle.phy.specs.declared.packet.Packet.{Packet}
+use Rattle.phy.specs.declared.slot.Flood.{Flood as Floods}
+use Rattle.phy.specs.Node.{new, begunBy, deliveredTo, holding, listens, floods, sleeps, isListening, isFlooding, isSleeping, total}
+use Rattle.phy.specs.Packets.{numbersOf, holds}
+use Rattle.phy.specs.Slot.{Standing, at, insert, sumOf}
+use Rattle.phy.specs.Round.{begun, delivered, withNodes, participants, coverage}
+use Rattle.phy.specs.View.{Gave, Holding, Stands, begunFlood, Delivers, sameNumbers}
+use Rattle.phy.proofs.Masks.{has-insert, insert-lt}
+use Rattle.phy.proofs.Nodes.{delivered-state, count-cong, total-begun, total-delivered}
+use Rattle.phy.proofs.Numbers.{same-numbers}
+use Rattle.phy.proofs.Packets.{same-packet-itself}
+use Rattle.phy.proofs.Steps.{sum-cong}
+
+-- ---- the set of all nodes but one
+two-parts : (n : ℕ) (f : ℕ → Bool) → setOf n f + setOf n (λ (j : ℕ). not (f j)) + 1 ≡ 2 ^ n
+unfolding setOf
+two-parts zero f = refl
+two-parts (suc n) f = omega (arith, two-parts n f, pow-suc 2 n, one (f n))
+  where
+    one : (b : Bool) → cond b (2 ^ n) 0 + cond (not b) (2 ^ n) 0 ≡ 2 ^ n
+    one true = omega arith
+    one false = omega arith
+
+pub all-but : (n first : ℕ) → first < n → setOf n (λ (j : ℕ). not (eqb j first)) ≡ 2 ^ n - 1 - 2 ^ first
+all-but n first h = omega (arith, two-parts n (λ (j : ℕ). eqb j first), setOf-one n first h)
+
+-- one node is no more than all of them
+pub own-fits : (n first : ℕ) → first < n → n < 64 → 1 * 2 ^ first % 2 ^ 64 ≤ 1 * 2 ^ n % 2 ^ 64 - 1
+own-fits n first h small =
+    subst⁻¹ (λ (a : ℕ). a ≤ 1 * 2 ^ n % 2 ^ 64 - 1) (one-shl 64 first (omega arith))
+    (subst⁻¹ (λ (a : ℕ). 2 ^ first ≤ a - 1) (one-shl 64 n small) (omega (arith, pow-lt h)))
+
+-- ---- a round begins
+module _ (n repeats first : ℕ) (packet : Packet) (x : Floods) (l h h' b : List ℕ) (s : Standing) (few : first < n) (most : n ≤ 64) (room : first < length l)
+    (gave : Gave first (numbersOf packet) h h') (st : Stands n x l h b s) where
+  abbrev nodes : List Node
+  nodes = s .nodes
+
+  abbrev opened : List Node
+  opened = begun n repeats first packet nodes
+
+  each : (j : ℕ) → j < n → at opened j ≡ begunBy (eqb j first) packet repeats (at nodes j)
+  unfolding begun
+  each j p = getD-tabulate n (λ (k : ℕ). begunBy (eqb k first) packet repeats (at nodes k)) j new p
+
+  field : {A : Type 0} (f : Node → A) (g : Bool → A) (v : Node) → f (begunBy true packet repeats v) ≡ g true → f (begunBy false packet repeats v) ≡ g false
+      → (c : Bool) → f (begunBy c packet repeats v) ≡ g c
+  field f g v t e true = t
+  field f g v t e false = e
+
+  listening-then : (j : ℕ) → j < n → isListening (at opened j) ≡ not (eqb j first)
+  listening-then j p = ap isListening (each j p) ∙ field isListening not (at nodes j) refl refl (eqb j first)
+
+  flooding-then : (j : ℕ) → j < n → isFlooding (at opened j) ≡ eqb j first
+  flooding-then j p = ap isFlooding (each j p) ∙ field isFlooding (λ (c : Bool). c) (at nodes j) refl refl (eqb j first)
+
+  same-count : (f : Node → ℕ) → ((v : Node) → f (begunBy true packet repeats v) ≡ f v) → ((v : Node) → f (begunBy false packet repeats v) ≡ f v)
+      → sumOf f opened n ≡ sumOf f nodes n
+  same-count f t e = sum-cong f nodes opened n (λ j p. ap f (each j p) ∙ field f (λ (c : Bool). f (at nodes j)) (at nodes j) (t (at nodes j)) (e (at nodes j)) (eqb j first))
+
+  left-then : (j : ℕ) → j < n → isFlooding (at opened j) ≡ true → getD (set l first repeats) j 0 ≡ at opened j .«flood_remaining»
+  left-then j p f =
+      let is : eqb j first ≡ true = sym (flooding-then j p) ∙ f in
+      ap (λ (k : ℕ). getD (set l first repeats) k 0) (eqb-true j first is)
+      ∙ getD-set-same l first repeats 0 room
+      ∙ sym (ap (λ (v : Node). v .«flood_remaining») (each j p ∙ ap (λ (c : Bool). begunBy c packet repeats (at nodes j)) is))
+
+  held-then : (j : ℕ) → j < n → Holding h' (insert first (x .holding)) j (at opened j .payload)
+  held-then j p =
+      subst (λ (v : Node). Holding h' (insert first (x .holding)) j (v .payload)) (sym (each j p))
+      (⊎-elim own other (two (eqb j first)))
+    where
+      bit : has (insert first (x .holding)) j ≡ eqb j first || has (x .holding) j
+      bit = has-insert 64 (st .holders) (omega arith) j (omega arith)
+
+      own : eqb j first ≡ true → Holding h' (insert first (x .holding)) j (begunBy (eqb j first) packet repeats (at nodes j) .payload)
+      own e =
+          subst (λ (c : Bool). Holding h' (insert first (x .holding)) j (begunBy c packet repeats (at nodes j) .payload)) (sym e) (
+            bit ∙ ap (λ (c : Bool). c || has (x .holding) j) e,
+            λ k q. ap (λ (i : ℕ). getD h' (12 * i + k) 0) (eqb-true j first e) ∙ gave .given k q,
+          )
+
+      kept : (v : Payload) → eqb j first ≡ false → Holding h (x .holding) j v → Holding h' (insert first (x .holding)) j v
+      kept Payload.None e q = bit ∙ ap₂ _||_ e q
+      kept (Payload.Of r) e q = (bit ∙ ap₂ _||_ e (q .0), λ k u. gave .others j k (eqb-false j first e) u ∙ q .1 k u)
+
+      other : eqb j first ≡ false → Holding h' (insert first (x .holding)) j (begunBy (eqb j first) packet repeats (at nodes j) .payload)
+      other e =
+          subst (λ (c : Bool). Holding h' (insert first (x .holding)) j (begunBy c packet repeats (at nodes j) .payload)) (sym e)
+          (kept (at nodes j .payload) e (st .held j p))
+
+  begun-stands : Stands n (begunFlood n first x) (set l first repeats) h' b (withNodes opened s)
+  begun-stands =
+      record {
+        listening = sym (all-but n first few) ∙ setOf-cong n (λ j p. sym (listening-then j p));
+        flooding = sym (setOf-one n first few) ∙ setOf-cong n (λ j p. sym (flooding-then j p));
+        left = left-then;
+        held = held-then;
+        holders = insert-lt 64 (st .holders) (omega arith);
+        listens = st .listens ∙ sym (same-count (λ (v : Node). v .«slots_listen») (λ v. refl) (λ v. refl));
+        floods = st .floods ∙ sym (same-count (λ (v : Node). v .«slots_flood») (λ v. refl) (λ v. refl));
+        sleeps = st .sleeps ∙ sym (same-count (λ (v : Node). v .«slots_sleep») (λ v. refl) (λ v. refl));
+        counted = λ j p. total-begun n repeats first packet nodes j p ∙ st .counted j p;
+        attempts = st .attempts;
+        successes = st .successes;
+        slot = st .slot;
+        shots = st .shots;
+      }
+
+-- the same of what the code's begin gave
+pub opens : (n repeats first : ℕ) (packet : Packet) {key : List ℕ} {x y : Floods} {l l' h h' b : List ℕ} {s : Standing} → first < n → n ≤ 64 → first < length l
+    → key ≡ numbersOf packet → y ≡ begunFlood n first x → l' ≡ set l first repeats → Gave first key h h' → Stands n x l h b s
+    → Stands n y l' h' b (withNodes (begun n repeats first packet (s .nodes)) s)
+opens n repeats first packet {key} {x} {y} {l} {l'} {h} {h'} {b} {s} few most room k e w gave st =
+    subst⁻¹ (λ (z : Floods). Stands n z l' h' b (withNodes (begun n repeats first packet (s .nodes)) s)) e
+    (subst⁻¹ (λ (m : List ℕ). Stands n (begunFlood n first x) m h' b (withNodes (begun n repeats first packet (s .nodes)) s)) w
+    (begun-stands n repeats first packet x l h h' b s few most room (subst (λ (m : List ℕ). Gave first m h h') k gave) st))
+
+-- ---- a round ends
+-- another set of nodes holds a packet
+abbrev heldFlood : ℕ → Floods → Floods
+heldFlood set x =
+    record {
+      listening = x .listening;
+      flooding = x .flooding;
+      holding = set;
+      «slots_listen» = x .«slots_listen»;
+      «slots_flood» = x .«slots_flood»;
+      «slots_sleep» = x .«slots_sleep»;
+      attempts = x .attempts;
+      successes = x .successes;
+      slot = x .slot;
+      «next_snapshot» = x .«next_snapshot»;
+      snapshots = x .snapshots;
+      source = x .source;
+    }
+
+module _ (n first : ℕ) (packet : Packet) (x : Floods) (r : Delivered) (l h h' b : List ℕ) (s : Standing) (most : n ≤ 64)
+    (st : Stands n x l h b s) (d : Delivers n first (numbersOf packet) (bitOr (x .listening) (x .flooding)) (x .holding) h r h') where
+  abbrev awake : ℕ
+  awake = bitOr (x .listening) (x .flooding)
+
+  abbrev given : List Node
+  given = delivered n packet (s .nodes)
+
+  got : (j : ℕ) → j < n → at given j ≡ deliveredTo packet (at (s .nodes) j)
+  unfolding delivered
+  got j p = getD-tabulate n (λ (k : ℕ). deliveredTo packet (at (s .nodes) k)) j new p
+
+  same-state : (j : ℕ) → j < n → at given j .state ≡ at (s .nodes) j .state
+  same-state j p = ap (λ (v : Node). v .state) (got j p) ∙ delivered-state packet (at (s .nodes) j)
+
+  asleep : (j : ℕ) → j < n → not (has awake j) ≡ isSleeping (at (s .nodes) j)
+  asleep j p =
+      ap not (has-or (x .listening) (x .flooding) j ∙ ap₂ _||_ (ap (λ (k : ℕ). has k j) (st .listening) ∙ has-setOf n _ j p) (ap (λ (k : ℕ). has k j) (st .flooding) ∙ has-setOf n _ j p))
+      ∙ three (at (s .nodes) j .state)
+    where
+      three : (q : NodeState) → not (listens q || floods q) ≡ sleeps q
+      three Listen = refl
+      three Flood = refl
+      three Sleep = refl
+
+  field-of : {A : Type 0} (f : Node → A) (v : Node) → f (holding packet v) ≡ f v → f (deliveredTo packet v) ≡ f v
+  field-of f v e = go (isSleeping v)
+    where
+      go : (c : Bool) → f (cond c (holding packet v) v) ≡ f v
+      go true = e
+      go false = refl
+
+  same-sum : (f : Node → ℕ) → ((v : Node) → f (holding packet v) ≡ f v) → sumOf f given n ≡ sumOf f (s .nodes) n
+  same-sum f e = sum-cong f (s .nodes) given n (λ j p. ap f (got j p) ∙ field-of f (at (s .nodes) j) (e (at (s .nodes) j)))
+
+  covered-by : (j : ℕ) → j < n → not (has awake j) || (has (x .holding) j && sameNumbers h (numbersOf packet) j) ≡ holds packet (at given j .payload)
+  covered-by j p =
+      ap (λ (c : Bool). c || (has (x .holding) j && sameNumbers h (numbersOf packet) j)) (asleep j p)
+      ∙ go (isSleeping (at (s .nodes) j)) (at (s .nodes) j) (st .held j p)
+      ∙ ap (λ (v : Node). holds packet (v .payload)) (sym (got j p))
+    where
+      kept : (v : Payload) → Holding h (x .holding) j v → has (x .holding) j && sameNumbers h (numbersOf packet) j ≡ holds packet v
+      kept Payload.None q = ap (λ (c : Bool). c && sameNumbers h (numbersOf packet) j) q
+      kept (Payload.Of w) q = ap₂ _&&_ (q .0) (same-numbers packet w h j (q .1))
+
+      go : (c : Bool) (v : Node) → Holding h (x .holding) j (v .payload) → c || (has (x .holding) j && sameNumbers h (numbersOf packet) j) ≡ holds packet (cond c (holding packet v) v .payload)
+      go true v q = sym (same-packet-itself packet)
+      go false v q = kept (v .payload) q
+
+  held-after : (j : ℕ) → j < n → Holding h' (r .holding) j (at given j .payload)
+  held-after j p =
+      subst (λ (v : Node). Holding h' (r .holding) j (v .payload)) (sym (got j p))
+      (go (isSleeping (at (s .nodes) j)) refl)
+    where
+      bit : has (r .holding) j ≡ not (has awake j) || has (x .holding) j
+      bit = ap (λ (k : ℕ). has k j) (d .holding) ∙ has-setOf n _ j p
+
+      kept : (v : Payload) → has awake j ≡ true → Holding h (x .holding) j v → Holding h' (r .holding) j v
+      kept Payload.None e q = bit ∙ ap₂ _||_ (ap not e) q
+      kept (Payload.Of w) e q = (bit ∙ ap₂ _||_ (ap not e) (q .0), λ k u. d .kept j p e k u ∙ q .1 k u)
+
+      go : (c : Bool) → isSleeping (at (s .nodes) j) ≡ c → Holding h' (r .holding) j (cond c (holding packet (at (s .nodes) j)) (at (s .nodes) j) .payload)
+      go true e =
+          let off : not (has awake j) ≡ true = asleep j p ∙ e in
+          (bit ∙ ap (λ (c : Bool). c || has (x .holding) j) off, λ k u. d .given j p (not-true (has awake j) off) k u)
+      go false e = kept (at (s .nodes) j .payload) (not-false (has awake j) (asleep j p ∙ e)) (st .held j p)
+
+  delivered-stands : (y : Floods) → y ≡ heldFlood (r .holding) x
+      → Stands n y l h' b (withNodes given s)
+  delivered-stands y e =
+      subst⁻¹ (λ (z : Floods). Stands n z l h' b (withNodes given s)) e
+      (record {
+        listening = st .listening ∙ setOf-cong n (λ j p. ap listens (sym (same-state j p)));
+        flooding = st .flooding ∙ setOf-cong n (λ j p. ap floods (sym (same-state j p)));
+        left = λ j p f. st .left j p (ap floods (sym (same-state j p)) ∙ f) ∙ sym (ap (λ (v : Node). v .«flood_remaining») (got j p) ∙ field-of (λ (v : Node). v .«flood_remaining») (at (s .nodes) j) refl);
+        held = held-after;
+        holders = subst⁻¹ (λ (k : ℕ). k < 2 ^ 64) (d .holding) (lt-of-lt-of-le (setOf-lt n _) (pow-mono most));
+        listens = st .listens ∙ sym (same-sum (λ (v : Node). v .«slots_listen») (λ v. refl));
+        floods = st .floods ∙ sym (same-sum (λ (v : Node). v .«slots_flood») (λ v. refl));
+        sleeps = st .sleeps ∙ sym (same-sum (λ (v : Node). v .«slots_sleep») (λ v. refl));
+        counted = λ j p. total-delivered n packet (s .nodes) j p ∙ st .counted j p;
+        attempts = st .attempts;
+        successes = st .successes;
+        slot = st .slot;
+        shots = st .shots;
+      })
+
+  delivered-part : r .part ≡ participants n first given
+  unfolding participants
+  delivered-part = d .part ∙ setOf-cong n (λ j p. ap (λ (c : Bool). eqb j first || c) (asleep j p ∙ ap sleeps (sym (same-state j p))))
+
+  delivered-covered : r .covered ≡ coverage n packet given
+  unfolding coverage
+  delivered-covered = d .covered ∙ count-cong n _ _ covered-by
+
+-- the same of what the code's end gave
+pub closes : (n first : ℕ) (packet : Packet) {key : List ℕ} {x y : Floods} {r : Delivered} {l h h' b : List ℕ} {s : Standing} → n ≤ 64 → key ≡ numbersOf packet
+    → y ≡ heldFlood (r .holding) x
+    → Delivers n first key (bitOr (x .listening) (x .flooding)) (x .holding) h r h' → Stands n x l h b s
+    → Stands n y l h' b (withNodes (delivered n packet (s .nodes)) s)
+    × (r .part ≡ participants n first (delivered n packet (s .nodes)))
+    × (r .covered ≡ coverage n packet (delivered n packet (s .nodes)))
+closes n first packet {key} {x} {y} {r} {l} {h} {h'} {b} {s} most k e d st =
+    let d' = subst (λ (m : List ℕ). Delivers n first m (bitOr (x .listening) (x .flooding)) (x .holding) h r h') k d in
+    (delivered-stands n first packet x r l h h' b s most st d' y e, delivered-part n first packet x r l h h' b s most st d', delivered-covered n first packet x r l h h' b s most st d')

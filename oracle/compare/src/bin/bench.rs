@@ -1,0 +1,206 @@
+//! Times ctsim and the library on the same lines, in turn.
+
+use compare::arguments::seed_and_count;
+use compare::clock::processor_seconds;
+use compare::library::{self, Buffer, Buffers};
+use compare::library::{LOGS_LENGTH, RECORDS_LENGTH, SNAPSHOT_LENGTH, SUMMARY_LENGTH};
+use oracle::{Answer, Input, Summary};
+use std::hint::black_box;
+use std::process::ExitCode;
+
+const HELP: &str = "\
+usage: bench [SEED [COUNT]]
+
+Prints a table of the processor time that ctsim and the library take for a run,
+for six fixed runs, and the median ratio over COUNT random ones (100) of SEED (1).
+";
+
+const RUNS: [(&str, &str); 6] = [
+    (
+        "full mesh 32, r 3, loss 0.5, P 64",
+        "1 32 0 3 - 3fe0000000000000 7 64 100 1000000",
+    ),
+    (
+        "line 32, r 3, loss 0.1, P 64",
+        "2 32 0 3 - 3fb999999999999a 7 64 100 1000000",
+    ),
+    (
+        "grid 5 by 6, r 2, loss 0.3, P 64, interval 1",
+        "4 5 6 2 - 3fd3333333333333 7 64 1 1000000",
+    ),
+    (
+        "star 16, r 2, loss 0.3, P 64",
+        "3 16 0 2 - 3fd3333333333333 7 64 100 1000000",
+    ),
+    (
+        "ring 32, r 2, loss 0, P 64",
+        "5 32 0 2 - 0000000000000000 7 64 100 1000000",
+    ),
+    (
+        "line 2, r 2, round slots 1, P 64",
+        "2 2 0 2 1 0000000000000000 7 64 100 1000000",
+    ),
+];
+
+/// How often, and how long each time at least.
+struct Effort {
+    turns: usize,
+    seconds: f64,
+}
+
+const FIXED: Effort = Effort {
+    turns: 15,
+    seconds: 0.02,
+};
+const RANDOM: Effort = Effort {
+    turns: 5,
+    seconds: 0.002,
+};
+
+/// Seconds of processor time for one call.
+struct Times {
+    ctsim: f64,
+    library: f64,
+    draws: f64,
+}
+
+impl Times {
+    fn ratio(&self) -> f64 {
+        self.ctsim / self.library
+    }
+}
+
+fn main() -> ExitCode {
+    match seed_and_count(HELP, 100) {
+        Ok((seed, count)) => {
+            print_fixed();
+            if count > 0 {
+                print_random(seed, count);
+            }
+            ExitCode::SUCCESS
+        }
+        Err(status) => status,
+    }
+}
+
+fn print_fixed() {
+    println!("ctsim: building the graph and PaxosPipelineSim::run, quiet; library: the entry.");
+    println!(
+        "Processor time of one run in milliseconds; ratio: how many times faster the library is;"
+    );
+    println!("draws: as many of the seed's draws as the run made attempts, by the library.");
+    println!();
+    println!("| run | rounds | slots | attempts | ctsim | library | ratio | draws |");
+    println!("|---|---|---|---|---|---|---|---|");
+    for (name, line) in RUNS {
+        let input = Input::parse(line.as_bytes()).expect("readable");
+        let (run, times) = measure(&input, &FIXED);
+        print!(
+            "| {name} | {} | {} | {} ",
+            run.rounds, run.slots, run.rx_attempts
+        );
+        let [ctsim, library, draws] = [times.ctsim, times.library, times.draws].map(|s| s * 1e3);
+        println!(
+            "| {ctsim:.3} | {library:.3} | {:.2} | {draws:.3} |",
+            times.ratio()
+        );
+    }
+    println!();
+    for (name, line) in RUNS {
+        println!("{name}: {line}");
+    }
+}
+
+fn print_random(seed: u64, count: usize) {
+    let inputs: Vec<Input> = oracle::random(seed).take(count).collect();
+    let mut ratios: Vec<(f64, &Input)> = inputs
+        .iter()
+        .map(|input| (measure(input, &RANDOM).1.ratio(), input))
+        .collect();
+    ratios.sort_by(|(a, _), (b, _)| a.total_cmp(b));
+    let median = median(ratios.iter().map(|(ratio, _)| *ratio).collect());
+    let (least, slowest) = ratios[0];
+    let (greatest, fastest) = ratios[count - 1];
+    println!("\n{count} lines of inputs random {seed}: median of the ratios {median:.2}");
+    println!("least {least:.2}: {slowest}");
+    println!("greatest {greatest:.2}: {fastest}");
+}
+
+/// Medians over turns in which each of the three has its batch of calls.
+fn measure(input: &Input, effort: &Effort) -> (Summary, Times) {
+    let Answer::Ran(run) = oracle::run(input) else {
+        panic!("not accepted: {input}");
+    };
+    let mut buffers = Buffers {
+        summary: Buffer::new(SUMMARY_LENGTH, 0),
+        logs: Buffer::new(LOGS_LENGTH, 0),
+        records: Buffer::new(RECORDS_LENGTH, 0),
+        snapshots: Buffer::new(SNAPSHOT_LENGTH * run.snapshots.len(), 0),
+    };
+    // At rate 0 no draw is taken.
+    let lossless = f64::from_bits(input.loss_rate) == 0.0;
+    let draws = if lossless { 0 } else { run.rx_attempts };
+    let mut drawn = vec![0; draws as usize];
+    let mut by_ctsim = || drop(black_box(oracle::reference(black_box(input))));
+    let mut by_library = || {
+        let result = library::run(black_box(input), 1, &mut buffers);
+        assert_eq!(result, 0, "refused: {input}");
+    };
+    let mut by_draws = || library::draws(black_box(input.seed), &mut drawn);
+    let mut sides = [
+        Side::new(&mut by_ctsim, effort),
+        Side::new(&mut by_library, effort),
+        Side::new(&mut by_draws, effort),
+    ];
+    for _ in 0..effort.turns {
+        sides.iter_mut().for_each(Side::turn);
+    }
+    let [ctsim, library, draws_alone] = sides.map(|side| median(side.seconds));
+    let draws = if lossless { 0.0 } else { draws_alone };
+    let times = Times {
+        ctsim,
+        library,
+        draws,
+    };
+    (*run, times)
+}
+
+struct Side<'a> {
+    call: &'a mut dyn FnMut(),
+    batch: usize,
+    seconds: Vec<f64>,
+}
+
+impl<'a> Side<'a> {
+    /// The first calls say how many take as long as a turn should.
+    fn new(call: &'a mut dyn FnMut(), effort: &Effort) -> Self {
+        let start = processor_seconds();
+        let mut batch = 0;
+        while batch == 0 || processor_seconds() - start < effort.seconds {
+            call();
+            batch += 1;
+        }
+        let seconds = Vec::new();
+        Self {
+            call,
+            batch,
+            seconds,
+        }
+    }
+
+    fn turn(&mut self) {
+        let start = processor_seconds();
+        for _ in 0..self.batch {
+            (self.call)();
+        }
+        let seconds = processor_seconds() - start;
+        self.seconds.push(seconds / self.batch as f64);
+    }
+}
+
+fn median(mut numbers: Vec<f64>) -> f64 {
+    numbers.sort_by(f64::total_cmp);
+    let half = numbers.len() / 2;
+    let below = numbers[(numbers.len() - 1) / 2];
+    (below + numbers[half]) / 2.0
+}

@@ -1,0 +1,125 @@
+//! Compares ctsim and the library, line by line.
+
+use compare::arguments::seed_and_count;
+use compare::check::check;
+use compare::clock::processor_seconds;
+use compare::tally::Tally;
+use oracle::{Answer, Input};
+use std::process::ExitCode;
+use std::sync::atomic::{AtomicUsize, Ordering};
+use std::sync::Mutex;
+use std::time::Instant;
+
+const HELP: &str = "\
+usage: compare [SEED [COUNT]]
+
+Answers by ctsim and by the library, and compares: every line of `inputs small`,
+COUNT random ones (100000) and a tenth as many broken ones. SEED (1) is the first
+of the seeds that they are made from, another for each 500 of them.
+Status: 0 all are the same; 1 there is a difference; 2 wrong use.
+";
+
+/// Lines that one thread takes at a time.
+const CHUNK: usize = 500;
+
+/// A chunk of lines.
+enum Lines<'a> {
+    Small(&'a [Input]),
+    Random { seed: u64, count: usize },
+    Broken { seed: u64, count: usize },
+}
+
+impl Lines<'_> {
+    /// Each line with ctsim's answer; `None` for an unreadable one.
+    fn answered(&self) -> Box<dyn Iterator<Item = Option<(Input, Answer)>> + '_> {
+        let answered = |input: Input| {
+            let answer = oracle::run(&input);
+            (input, answer)
+        };
+        match *self {
+            Lines::Small(inputs) => Box::new(inputs.iter().cloned().map(answered).map(Some)),
+            Lines::Random { seed, count } => {
+                Box::new(oracle::random_answered(seed).take(count).map(Some))
+            }
+            Lines::Broken { seed, count } => {
+                let lines = oracle::broken(seed).take(count);
+                Box::new(lines.map(move |line| Input::parse(line.as_bytes()).map(answered)))
+            }
+        }
+    }
+}
+
+fn main() -> ExitCode {
+    match seed_and_count(HELP, 100_000) {
+        Ok((seed, count)) if compare(seed, count) => ExitCode::SUCCESS,
+        Ok(_) => ExitCode::FAILURE,
+        Err(status) => status,
+    }
+}
+
+/// Whether all is the same.
+fn compare(seed: u64, count: usize) -> bool {
+    let start = Instant::now();
+    let threads = std::thread::available_parallelism().map_or(1, usize::from);
+    let small: Vec<Input> = oracle::small().collect();
+    let broken = count / 10;
+    println!("ctsim and the library on the same lines, in one process");
+    println!(
+        "small {} random {count} broken {broken}, seed {seed}",
+        small.len()
+    );
+    let chunks = chunks(&small, seed, count, broken);
+    let tally = Mutex::new(Tally::default());
+    let next = AtomicUsize::new(0);
+    let work = || loop {
+        let at = next.fetch_add(1, Ordering::Relaxed);
+        let Some(lines) = chunks.get(at) else { break };
+        compare_chunk(lines, at * CHUNK, &tally);
+    };
+    std::thread::scope(|scope| {
+        for _ in 0..threads {
+            scope.spawn(work);
+        }
+    });
+    let tally = tally.into_inner().expect("no thread panicked");
+    print!("{tally}");
+    println!(
+        "seconds {} with {threads} threads",
+        start.elapsed().as_secs()
+    );
+    tally.all_the_same()
+}
+
+/// The chunk's lines are numbered from `first` on.
+fn compare_chunk(lines: &Lines, first: usize, tally: &Mutex<Tally>) {
+    let mut start = processor_seconds();
+    for (i, line) in lines.answered().enumerate() {
+        let number = (first + i) as u64;
+        let seconds = processor_seconds() - start;
+        let check = |(input, answer)| {
+            let checked = check(&input, &answer, number);
+            (input, answer, checked)
+        };
+        let line = line.map(check);
+        let mut tally = tally.lock().expect("no thread panicked");
+        tally.add_seconds(seconds);
+        match line {
+            Some((input, answer, checked)) => tally.add(number, &input, &answer, checked),
+            None => tally.add_unreadable(),
+        }
+        start = processor_seconds();
+    }
+}
+
+fn chunks(small: &[Input], seed: u64, random: usize, broken: usize) -> Vec<Lines<'_>> {
+    let seeded = |lines: usize| {
+        let counts = (0..lines)
+            .step_by(CHUNK)
+            .map(move |at| CHUNK.min(lines - at));
+        (seed..).zip(counts)
+    };
+    let small = small.chunks(CHUNK).map(Lines::Small);
+    let random = seeded(random).map(|(seed, count)| Lines::Random { seed, count });
+    let broken = seeded(broken).map(|(seed, count)| Lines::Broken { seed, count });
+    small.chain(random).chain(broken).collect()
+}

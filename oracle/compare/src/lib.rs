@@ -1,0 +1,8 @@
+//! ctsim and the library in one process.
+
+pub mod arguments;
+pub mod check;
+pub mod clock;
+pub mod exact;
+pub mod library;
+pub mod tally;

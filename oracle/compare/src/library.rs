@@ -1,0 +1,158 @@
+//! The library's entries, as include/ctsim.h has them.
+
+use oracle::{Graph, Input};
+
+extern "C" {
+    fn ctsim_draws(seed: u64, out: *mut u64, out_length: usize) -> u64;
+    fn ctsim_run_topology(
+        topology: u64,
+        first: u64,
+        second: u64,
+        repeats: u64,
+        round_slots_given: u64,
+        round_slots: u64,
+        loss: f64,
+        seed: u64,
+        proposals: u64,
+        interval: u64,
+        limit: u64,
+        summary: *mut u64,
+        summary_length: usize,
+        logs: *mut u8,
+        logs_length: usize,
+        records: *mut u64,
+        records_length: usize,
+        snapshots: *mut u64,
+        snapshots_length: usize,
+    ) -> u64;
+    fn ctsim_run_rows(
+        rows: *const u32,
+        rows_length: usize,
+        n: u64,
+        repeats: u64,
+        round_slots_given: u64,
+        round_slots: u64,
+        loss: f64,
+        seed: u64,
+        proposals: u64,
+        interval: u64,
+        limit: u64,
+        summary: *mut u64,
+        summary_length: usize,
+        logs: *mut u8,
+        logs_length: usize,
+        records: *mut u64,
+        records_length: usize,
+        snapshots: *mut u64,
+        snapshots_length: usize,
+    ) -> u64;
+}
+
+pub const SUMMARY_LENGTH: usize = 16;
+pub const LOGS_LENGTH: usize = 2080;
+pub const RECORDS_LENGTH: usize = 192;
+/// Numbers of one snapshot.
+pub const SNAPSHOT_LENGTH: usize = 5;
+
+/// The first places are lent; those behind them are not the library's to write.
+#[derive(Clone)]
+pub struct Buffer<T> {
+    pub places: Vec<T>,
+    pub lent: usize,
+}
+
+const NOT_LENT: usize = 8;
+
+impl<T: Clone> Buffer<T> {
+    /// Every place holds the mark.
+    pub fn new(lent: usize, mark: T) -> Self {
+        let places = vec![mark; lent + NOT_LENT];
+        Self { places, lent }
+    }
+}
+
+#[derive(Clone)]
+pub struct Buffers {
+    pub summary: Buffer<u64>,
+    pub logs: Buffer<u8>,
+    pub records: Buffer<u64>,
+    pub snapshots: Buffer<u64>,
+}
+
+/// Runs the input, refused or not, and gives back what the entry returns. `any` stands for two
+/// arguments that may be any number: that round slots are given, where it is not 0, and round
+/// slots that are not given.
+pub fn run(input: &Input, any: u64, buffers: &mut Buffers) -> u64 {
+    let (given, round_slots) = match input.round_slots {
+        Some(slots) => (any.max(1), slots),
+        None => (0, any),
+    };
+    let loss = f64::from_bits(input.loss_rate);
+    let Buffers {
+        summary,
+        logs,
+        records,
+        snapshots,
+    } = buffers;
+    match &input.graph {
+        // Safety: each pointer is that of a vector with at least so many places.
+        Graph::Topology {
+            number,
+            nodes,
+            second,
+        } => unsafe {
+            ctsim_run_topology(
+                *number,
+                *nodes,
+                *second,
+                input.flood_repeats,
+                given,
+                round_slots,
+                loss,
+                input.seed,
+                input.num_proposals,
+                input.snapshot_interval,
+                input.max_slots,
+                summary.places.as_mut_ptr(),
+                summary.lent,
+                logs.places.as_mut_ptr(),
+                logs.lent,
+                records.places.as_mut_ptr(),
+                records.lent,
+                snapshots.places.as_mut_ptr(),
+                snapshots.lent,
+            )
+        },
+        // Safety: as above.
+        Graph::Rows { nodes, rows } => unsafe {
+            ctsim_run_rows(
+                rows.as_ptr(),
+                rows.len(),
+                *nodes,
+                input.flood_repeats,
+                given,
+                round_slots,
+                loss,
+                input.seed,
+                input.num_proposals,
+                input.snapshot_interval,
+                input.max_slots,
+                summary.places.as_mut_ptr(),
+                summary.lent,
+                logs.places.as_mut_ptr(),
+                logs.lent,
+                records.places.as_mut_ptr(),
+                records.lent,
+                snapshots.places.as_mut_ptr(),
+                snapshots.lent,
+            )
+        },
+    }
+}
+
+/// Fills `out` with a seed's draws.
+pub fn draws(seed: u64, out: &mut [u64]) {
+    // Safety: the pointer and the length are those of one slice.
+    let result = unsafe { ctsim_draws(seed, out.as_mut_ptr(), out.len()) };
+    assert_eq!(result, 0, "draws are never refused");
+}

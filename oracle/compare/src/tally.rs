@@ -1,0 +1,113 @@
+//! What a comparison saw.
+
+use crate::check::Checked;
+use oracle::{Answer, Graph, Input, Summary};
+use std::fmt;
+
+#[derive(Default)]
+pub struct Tally {
+    lines: u64,
+    unreadable: u64,
+    runs: u64,
+    of_rows: u64,
+    ended: [u64; 5],
+    lossy: u64,
+    nacks: u64,
+    piggybacks: u64,
+    cut: u64,
+    refused: [u64; 10],
+    exact: u64,
+    exact_of_rows: u64,
+    exact_above_zero: u64,
+    ctsim_seconds: f64,
+    library_seconds: f64,
+    differences: u64,
+    first: Option<Difference>,
+}
+
+struct Difference {
+    number: u64,
+    line: String,
+    what: String,
+}
+
+impl Tally {
+    pub fn add_unreadable(&mut self) {
+        self.lines += 1;
+        self.unreadable += 1;
+    }
+
+    pub fn add_seconds(&mut self, of_ctsim: f64) {
+        self.ctsim_seconds += of_ctsim;
+    }
+
+    pub fn add(&mut self, number: u64, input: &Input, answer: &Answer, checked: Checked) {
+        self.lines += 1;
+        self.library_seconds += checked.seconds;
+        match answer {
+            Answer::Refused(refusal) => self.refused[*refusal as usize] += 1,
+            Answer::Ran(run) => self.add_run(input, run, &checked),
+            Answer::Panicked(_) => {}
+        }
+        if let Some(what) = checked.difference {
+            self.differences += 1;
+            if self
+                .first
+                .as_ref()
+                .is_none_or(|first| number < first.number)
+            {
+                let line = input.to_string();
+                self.first = Some(Difference { number, line, what });
+            }
+        }
+    }
+
+    fn add_run(&mut self, input: &Input, run: &Summary, checked: &Checked) {
+        let of_rows = matches!(input.graph, Graph::Rows { .. });
+        let above_zero = f64::from_bits(input.loss_rate) > 0.0;
+        self.runs += 1;
+        self.ended[run.ended as usize] += 1;
+        self.of_rows += u64::from(of_rows);
+        self.lossy += u64::from(run.rx_success < run.rx_attempts);
+        self.nacks += u64::from(run.nacks_sent > 0);
+        self.piggybacks += u64::from(run.piggybacks_sent > 0);
+        self.cut += u64::from(checked.cut);
+        self.exact += u64::from(checked.exact);
+        self.exact_of_rows += u64::from(checked.exact && of_rows);
+        self.exact_above_zero += u64::from(checked.exact && above_zero);
+    }
+
+    pub fn all_the_same(&self) -> bool {
+        self.differences == 0
+    }
+}
+
+impl fmt::Display for Tally {
+    fn fmt(&self, f: &mut fmt::Formatter) -> fmt::Result {
+        writeln!(f, "lines {}", self.lines)?;
+        writeln!(f, "unreadable, not compared {}", self.unreadable)?;
+        writeln!(f, "runs {}", self.runs)?;
+        writeln!(f, "  of rows {}", self.of_rows)?;
+        for end in 1..=4 {
+            writeln!(f, "  with end {end} {}", self.ended[end])?;
+        }
+        writeln!(f, "  lossy {}", self.lossy)?;
+        writeln!(f, "  with NACKs {}", self.nacks)?;
+        writeln!(f, "  with piggybacks {}", self.piggybacks)?;
+        writeln!(f, "  whose snapshots did not all fit {}", self.cut)?;
+        writeln!(f, "refused {}", self.refused.iter().sum::<u64>())?;
+        for (number, count) in self.refused.iter().enumerate().skip(1) {
+            writeln!(f, "  by {number} {count}")?;
+        }
+        writeln!(f, "runs that demand 3 fixes {}", self.exact)?;
+        writeln!(f, "  of rows {}", self.exact_of_rows)?;
+        writeln!(f, "  at a loss rate above 0 {}", self.exact_above_zero)?;
+        writeln!(f, "processor seconds of ctsim {:.0}", self.ctsim_seconds)?;
+        writeln!(f, "  of the library {:.0}", self.library_seconds)?;
+        writeln!(f, "differences {}", self.differences)?;
+        if let Some(first) = &self.first {
+            writeln!(f, "first difference:\n  {}\n  {}", first.line, first.what)?;
+        }
+        Ok(())
+    }
+}
