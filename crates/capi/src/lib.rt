@@ -6,9 +6,9 @@ use filing::config_of;
 use filing::file_answer;
 use network::distance::Measured;
 use network::distance::diameter;
-use network::draws::draws;
 use network::topology::Built;
 use network::topology::rows;
+use random::draws::draws;
 use sim::entries::run_rows;
 use sim::entries::run_topology;
 use sim::metrics::Ratio;
@@ -18,8 +18,8 @@ ghost use mathlib.Core.Path.{_≡_};
 ghost use mathlib.Core.List.{List};
 ghost use lib.Ieee.{Float};
 ghost use lib.ListN.{length};
-ghost use Rattle.network.specs.Draws.{draw};
-ghost use Rattle.network.specs.Table.{tabulate};
+ghost use Rattle.random.specs.Draws.{draw};
+ghost use Rattle.random.specs.Table.{tabulate};
 ghost use Rattle.capi.specs.Capi.{filedRows, filedDiameter, filedRatio, configFrom, filed, filedTopology, filedRun};
 
 // Refusal 13, which only these entries have: a slice for results is too short.

@@ -1,88 +1,14 @@
 // Runs document 01's edges that no theorem shows and no line of `replay` can ask for: buffers one
-// short, exactly full and longer than needed, rows, diameters and ratios at their boundaries, and
-// inputs that are no line. Places of a buffer hold a mark beforehand; how many still hold it is
+// short, exactly full and longer than needed, ratios at their boundaries, and inputs that are no line. Places of a buffer hold a mark beforehand; how many still hold it is
 // printed as kept.
 mod marks;
 mod runs;
 
-use marks::kept_rows;
 use marks::put;
 use marks::put_end;
 use marks::put_number;
-use network::distance::Measured;
-use network::topology::Built;
 use sim::metrics::Ratio;
 use sim::ratio::ratio;
-
-// The rows of a topology in a buffer of this length, and how many places keep the mark.
-fn show_built(name: &[u8], topology: u64, first: u64, second: u64, out: &mut [u32]) {
-    let answer = network::topology::rows(topology, first, second, out);
-    put(name);
-    match answer {
-        Built::Nodes(n) => {
-            put(b" nodes");
-            put_number(n as u64);
-        }
-        Built::Refused(k) => {
-            put(b" refused");
-            put_number(k);
-        }
-    }
-    put(b" kept");
-    put_number(kept_rows(out));
-    put_end();
-}
-
-// Refused before the places are looked at.
-fn built_without_places() {
-    let mut a = [77u32; 0];
-    let mut b = [77u32; 0];
-    let mut c = [77u32; 0];
-    show_built(b"rows of topology 7, no node, no place:", 7, 0, 0, &mut a);
-    show_built(b"rows of 33 nodes, no place:", 2, 33, 1, &mut b);
-    let name = b"rows of line 5, second number 1, no place:";
-    show_built(name, 2, 5, 1, &mut c);
-}
-
-fn built() {
-    let mut d = [77u32; 4];
-    let mut e = [77u32; 5];
-    let mut f = [77u32; 31];
-    let mut g = [77u32; 32];
-    let mut h = [77u32; 40];
-    show_built(b"rows of line 5 in 4 places:", 2, 5, 0, &mut d);
-    show_built(b"rows of line 5 in 5 places:", 2, 5, 0, &mut e);
-    show_built(b"rows of line 32 in 31 places:", 2, 32, 0, &mut f);
-    show_built(b"rows of line 32 in 32 places:", 2, 32, 0, &mut g);
-    show_built(b"rows of line 8 in 40 places:", 2, 8, 0, &mut h);
-}
-
-fn show_diameter(name: &[u8], rows: &[u32], n: u64) {
-    put(name);
-    match network::distance::diameter(rows, n) {
-        Measured::Links(d) => put_number(d as u64),
-        Measured::Refused(k) => {
-            put(b" refused");
-            put_number(k);
-        }
-    }
-    put_end();
-}
-
-fn diameters() {
-    show_diameter(b"diameter of line 3:", &[2, 5, 2], 3);
-    show_diameter(b"diameter of two pairs:", &[2, 1, 8, 4], 4);
-    show_diameter(b"diameter of no link:", &[0, 0, 0], 3);
-    show_diameter(b"diameter of one node:", &[0], 1);
-    show_diameter(b"diameter of 33 nodes with an own bit:", &[1], 33);
-}
-
-fn unchecked_diameters() {
-    show_diameter(b"diameter, a row too few:", &[2, 5], 3);
-    show_diameter(b"diameter, bit at n:", &[2, 13, 2], 3);
-    show_diameter(b"diameter, own bit:", &[2, 7, 2], 3);
-    show_diameter(b"diameter, one way:", &[2, 5, 0], 3);
-}
 
 // Whether a ratio is the f64 that is expected.
 fn show_ratio(name: &[u8], part: u64, whole: u64, expected: f64) {
@@ -172,10 +98,6 @@ fn long_lines() {
 
 fn main() {
     runs::run_all();
-    built_without_places();
-    built();
-    diameters();
-    unchecked_diameters();
     ratios();
     rounded_ratios();
     greatest_ratios();

@@ -36,14 +36,3 @@ pub fn kept_numbers(s: &[u64]) -> u64 {
     }
     n
 }
-
-// How many rows of a buffer hold the mark.
-pub fn kept_rows(s: &[u32]) -> u64 {
-    let mut n = 0;
-    for i in 0..s.len() {
-        if s[i] == 77 {
-            n = std::num::wrapping_add_u64(n, 1);
-        }
-    }
-    n
-}

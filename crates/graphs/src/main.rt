@@ -128,9 +128,65 @@ fn show_rows() {
     put_rows(b"one way:", &[2, 0], 2);
 }
 
+// How many rows of a buffer hold the mark.
+fn kept_rows(s: &[u32]) -> u64 {
+    let mut n = 0;
+    for i in 0..s.len() {
+        if s[i] == 77 {
+            n = std::num::wrapping_add_u64(n, 1);
+        }
+    }
+    n
+}
+
+// The rows of a topology in a buffer of this length, and how many places keep the mark.
+fn show_built(name: &[u8], topology: u64, first: u64, second: u64, out: &mut [u32]) {
+    let answer = network::topology::rows(topology, first, second, out);
+    put(name);
+    match answer {
+        Built::Nodes(n) => {
+            put(b" nodes");
+            put_number(n as u64);
+        }
+        Built::Refused(k) => {
+            put(b" refused");
+            put_number(k);
+        }
+    }
+    put(b" kept");
+    put_number(kept_rows(out));
+    put(b"\n");
+}
+
+// Refused before the places are looked at.
+fn built_without_places() {
+    let mut a = [77u32; 0];
+    let mut b = [77u32; 0];
+    let mut c = [77u32; 0];
+    show_built(b"rows of topology 7, no node, no place:", 7, 0, 0, &mut a);
+    show_built(b"rows of 33 nodes, no place:", 2, 33, 1, &mut b);
+    let name = b"rows of line 5, second number 1, no place:";
+    show_built(name, 2, 5, 1, &mut c);
+}
+
+fn built() {
+    let mut d = [77u32; 4];
+    let mut e = [77u32; 5];
+    let mut f = [77u32; 31];
+    let mut g = [77u32; 32];
+    let mut h = [77u32; 40];
+    show_built(b"rows of line 5 in 4 places:", 2, 5, 0, &mut d);
+    show_built(b"rows of line 5 in 5 places:", 2, 5, 0, &mut e);
+    show_built(b"rows of line 32 in 31 places:", 2, 32, 0, &mut f);
+    show_built(b"rows of line 32 in 32 places:", 2, 32, 0, &mut g);
+    show_built(b"rows of line 8 in 40 places:", 2, 8, 0, &mut h);
+}
+
 fn main() {
     sweep_all();
     show_large();
     show_short();
     show_rows();
+    built_without_places();
+    built();
 }

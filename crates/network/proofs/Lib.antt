@@ -1,8 +1,4 @@
 -- The laws that several proofs and the crates above cite.
-pub mod Tables
-pub mod Words
-pub mod Stream
-pub mod Fractions
 pub mod Sets
 pub mod Rows
 pub mod Within

@@ -9,8 +9,8 @@ use native.Mathlib.Numerals.{add-one}
 use lib.ListN.{length, getD, set, take, drop, replicate, length-append, List·getD-append}
 use lib.Seq.{drop-cons, set-at, length-take-le, take-suc, getD-take}
 use Rattle.network.specs.Graph.{maxNodes, widened}
-use Rattle.network.specs.Table.{tabulate}
-use Rattle.network.proofs.Tables.{length-tabulate, tabulate-snoc}
+use Rattle.random.specs.Table.{tabulate}
+use Rattle.random.proofs.Tables.{length-tabulate, tabulate-snoc}
 
 pub tabulate-more : (d : List ℕ) (i : ℕ) (f : ℕ → ℕ) → i < length d → set (tabulate i f ++ drop i d) i (f i) ≡ tabulate (i + 1) f ++ drop (i + 1) d
 tabulate-more d i f h =

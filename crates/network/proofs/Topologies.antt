@@ -18,7 +18,7 @@ use Rattle.network.specs.declared.topology.Topology.{Topology}
 use Rattle.network.specs.declared.topology.Topology.the-variants.{FullMesh, Line, Star, Grid, Ring, Tree}
 use Rattle.network.proofs.Sets.{two, same, and-both, or-right, has-setOf, setOf-lt}
 use Rattle.network.proofs.Within.{within-both, within-true}
-use Rattle.network.proofs.Tables.{length-tabulate, getD-tabulate}
+use Rattle.random.proofs.Tables.{length-tabulate, getD-tabulate}
 use Rattle.network.specs.Questions.{question4}
 use Rattle.network.proofs.Checks.{checked-question4}
 use Rattle.network.proofs.Distances.{joins, turned, distance-bound}

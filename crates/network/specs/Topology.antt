@@ -5,7 +5,7 @@ use mathlib.Core.Option.{Option, none, some}
 use Prim.Native.Nat.{ℕ, zero, suc, _+_, _*_, _/_, _%_}
 use lib.Dec.{eqb, leb, ltb}
 use lib.ListN.{length, drop}
-use Rattle.network.specs.Table.{tabulate}
+use Rattle.random.specs.Table.{tabulate}
 use Rattle.network.specs.Graph.{setOf}
 use Rattle.network.specs.Questions.{within, firstNo, nodesOf, question1, question2, question3}
 use Rattle.network.specs.declared.topology.Topology.{Topology}

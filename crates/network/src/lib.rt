@@ -1,11 +1,6 @@
-// Units, draws and graphs: what the flood and the run rest on.
-pub mod chacha;
+// Units and graphs: what the flood and the run rest on.
 pub mod distance;
-pub mod draws;
 pub mod graph;
 pub mod questions;
-pub mod reception;
-pub mod seed;
 pub mod topology;
 pub mod units;
-pub mod word;

@@ -12,7 +12,7 @@ use lib.Bits.{bitAnd}
 use Rattle.network.specs.Graph.{has, linked}
 use Rattle.network.proofs.Sets.{has-out}
 use Rattle.phy.proofs.Masks.{has-and}
-use Rattle.network.specs.Reception.{heard, Ready}
+use Rattle.random.specs.Reception.{heard, Ready}
 use Rattle.phy.specs.declared.slot.Tried.{Tried}
 use Rattle.phy.specs.Slot.{Tries, attempt, attemptAll, among, receivers}
 use Rattle.phy.specs.View.{triesOf, TriedOn}

@@ -12,7 +12,7 @@ use borrow.Author.Tests.{lt-ltb, le-ltb, eqb-true, eqb-false}
 use Rattle.network.specs.Graph.{has, linked, setOf, Checked}
 use Rattle.network.specs.Distance.{distance, links, eccentricity, Joined}
 use Rattle.network.proofs.Sets.{two, never, or-right, setOf-cong, count-lt}
-use Rattle.network.proofs.Tables.{getD-tabulate}
+use Rattle.random.proofs.Tables.{getD-tabulate}
 use Rattle.network.proofs.Distances.{distance-self, distance-zero, distance-link, distance-before, joined-distance, eccentricity-bound, eccentricity-each}
 use Rattle.phy.specs.declared.node.Node.{Node}
 use Rattle.phy.specs.declared.node.NodeState.{NodeState}

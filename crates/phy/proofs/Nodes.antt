@@ -11,7 +11,7 @@ use lib.ListN.{length, getD, length-set}
 use lib.Seq.{getD-set-same, getD-set-other}
 use Rattle.network.specs.Graph.{has, setOf, count, all}
 use Rattle.network.proofs.Sets.{setOf-lt}
-use Rattle.network.proofs.Tables.{getD-tabulate}
+use Rattle.random.proofs.Tables.{getD-tabulate}
 use Rattle.phy.specs.declared.node.Node.{Node}
 use Rattle.phy.specs.declared.node.NodeState.{NodeState}
 use Rattle.phy.specs.declared.node.NodeState.the-variants.{Listen, Flood, Sleep}

@@ -14,7 +14,7 @@ use lib.Seq.{getD-set-same, getD-set-other}
 use borrow.Author.Tests.{eqb-true, eqb-false, not-true, not-false}
 use Rattle.network.specs.Graph.{has, setOf}
 use Rattle.network.proofs.Sets.{two, has-or, has-setOf, setOf-cong, setOf-lt, setOf-one, one-shl}
-use Rattle.network.proofs.Tables.{getD-tabulate}
+use Rattle.random.proofs.Tables.{getD-tabulate}
 use Rattle.phy.specs.declared.ci.Delivered.{Delivered}
 use Rattle.phy.specs.declared.node.Node.{Node}
 use Rattle.phy.specs.declared.node.NodeState.{NodeState}

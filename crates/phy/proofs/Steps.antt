@@ -21,8 +21,8 @@ use Rattle.phy.specs.declared.slot.Settings.{Settings}
 use Rattle.phy.specs.declared.slot.Tried.{Tried}
 use Rattle.phy.specs.declared.snapshot.Shown.{Shown}
 use Rattle.phy.specs.declared.snapshot.Taken.{Taken}
-use Rattle.network.specs.declared.draws.DrawSource.{DrawSource}
-use Rattle.network.specs.Reception.{heard}
+use Rattle.random.specs.declared.draws.DrawSource.{DrawSource}
+use Rattle.random.specs.Reception.{heard}
 use Rattle.phy.specs.Node.{tick, tickIn, transition, transitionIn, listens, floods, sleeps, isListening, isFlooding, isSleeping}
 use Rattle.phy.specs.Slot.{Setup, Shots, Standing, Tries, at, sumOf, ticked, moved, snapshot, receivers, attemptAll, triesIn, takeWhile, slotStep}
 use Rattle.phy.specs.View.{leftAfter, Advanced, Holding, Stands, setupOf, triesOf, shownOf, shotOf, shotsOf, shotsIn}

@@ -5,7 +5,7 @@ use mathlib.Core.List.{List, [], _∷_, _++_}
 use lib.Dec.{leb}
 use lib.ListN.{length, getD, set}
 use lib.Seq.{sets}
-use Rattle.network.specs.Table.{tabulate}
+use Rattle.random.specs.Table.{tabulate}
 use Rattle.network.specs.Graph.{has, linked, count}
 use Rattle.phy.specs.declared.node.Node.{Node}
 use Rattle.phy.specs.Node.{new, tick, transition, isListening, isFlooding, isSleeping}

@@ -7,7 +7,7 @@ use lib.Dec.{eqb}
 use lib.ListN.{length, getD}
 use lib.Ieee.{Float}
 use Rattle.network.specs.Graph.{has, setOf, count, all}
-use Rattle.network.specs.Reception.{heard, Ready}
+use Rattle.random.specs.Reception.{heard, Ready}
 use Rattle.phy.specs.declared.slot.Settings.{Settings}
 use Rattle.phy.specs.declared.slot.Tried.{Tried}
 use Rattle.phy.specs.declared.slot.Awake.{Awake}

@@ -12,7 +12,7 @@ ghost use mathlib.Core.Path.{_≡_};
 ghost use mathlib.Core.Bool.{cond};
 ghost use Prim.Native.Nat.{ℕ, _+_, _*_, _^_, _≤_, _<_};
 ghost use lib.ListN.{length, set};
-ghost use Rattle.network.specs.Reception.{Ready};
+ghost use Rattle.random.specs.Reception.{Ready};
 ghost use Rattle.phy.specs.Slot.{Setup, Standing};
 ghost use Rattle.phy.specs.Round.{lengthLimit, slots as slotsOf};
 ghost use Rattle.phy.specs.View.{Gave, Sound, Stands, Meets, begunFlood, Slotted, Delivers, Rounded};

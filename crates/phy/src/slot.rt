@@ -2,10 +2,10 @@
 use super::snapshot::Shown;
 use super::snapshot::Taken;
 use super::snapshot::take_snapshots;
-use network::draws::DrawSource;
-use network::reception::receive;
 use network::units::NodeId;
 use network::units::Slot;
+use random::draws::DrawSource;
+use random::reception::receive;
 ghost use mathlib.Core.Path.{_≡_};
 ghost use mathlib.Core.Bool.{Bool};
 ghost use mathlib.Core.List.{[], _∷_};

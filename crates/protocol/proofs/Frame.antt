@@ -11,9 +11,9 @@ use lib.Count.{ones, ones-le}
 use lib.ListN.{length, getD, set, length-set, replicate, length-replicate}
 use lib.Seq.{getD-set-other}
 use Rattle.network.specs.Graph.{has}
-use Rattle.network.specs.Table.{tabulate}
+use Rattle.random.specs.Table.{tabulate}
 use Rattle.network.proofs.Sets.{has-below}
-use Rattle.network.proofs.Tables.{tabulate-cong}
+use Rattle.random.proofs.Tables.{tabulate-cong}
 use Rattle.phy.proofs.Masks.{has-zero}
 use Rattle.protocol.specs.Paxos.{State, logged, empty}
 use Rattle.protocol.specs.View.{lastOf, dataAt, dataOf, termAt, pendingSet, loggedSet, lastAt, entryAt, logOf, pendingOf, view, Distinct, Kept, Wrote}

@@ -15,8 +15,8 @@ use lib.ListN.{length, getD, set, length-set}
 use lib.Pow.{pow-lt}
 use lib.Seq.{getD-set-same, getD-set-other}
 use Rattle.network.specs.Graph.{has}
-use Rattle.network.specs.Table.{tabulate}
-use Rattle.network.proofs.Tables.{tabulate-cong, tabulate-snoc}
+use Rattle.random.specs.Table.{tabulate}
+use Rattle.random.proofs.Tables.{tabulate-cong, tabulate-snoc}
 use Rattle.phy.specs.declared.packet.Data.{Data}
 use Rattle.phy.specs.declared.packet.LastAccepted.{LastAccepted}
 use Rattle.protocol.specs.Paxos.{Entry, Pending, State, logged, held, isSome, put, entry, raise}

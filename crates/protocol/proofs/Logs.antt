@@ -7,7 +7,7 @@ use mathlib.Core.Path.{_≡_, refl, sym, ap, ap₂, _∙_, subst}
 use native.Mathlib.Omega.{arith}
 use borrow.Author.Tests.{eq-eqb}
 use lib.Dec.{eqb}
-use Rattle.network.specs.Table.{tabulate}
+use Rattle.random.specs.Table.{tabulate}
 use Rattle.phy.specs.declared.packet.Data.{Data}
 use Rattle.protocol.specs.Paxos.{Entry, logged, find}
 use Rattle.protocol.specs.View.{Distinct}

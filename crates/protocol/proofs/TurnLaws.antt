@@ -12,8 +12,8 @@ use lib.Count.{ones, ones-le}
 use lib.ListN.{length}
 use lib.Pow.{pow-lt}
 use Rattle.network.specs.Graph.{has}
-use Rattle.network.specs.Table.{tabulate}
-use Rattle.network.proofs.Tables.{length-tabulate}
+use Rattle.random.specs.Table.{tabulate}
+use Rattle.random.proofs.Tables.{length-tabulate}
 use Rattle.phy.specs.declared.packet.Data.{Data}
 use Rattle.phy.specs.declared.packet.Piggyback.{Piggyback}
 use Rattle.phy.specs.declared.packet.Packet.{Packet}

@@ -10,7 +10,7 @@ use lib.Count.{ones}
 use lib.Dec.{ltb}
 use lib.ListN.{length, getD}
 use Rattle.network.specs.Graph.{has}
-use Rattle.network.specs.Table.{tabulate}
+use Rattle.random.specs.Table.{tabulate}
 use Rattle.phy.specs.declared.packet.Data.{Data}
 use Rattle.phy.specs.declared.packet.LastAccepted.{LastAccepted}
 use Rattle.phy.specs.declared.packet.Piggyback.{Piggyback}

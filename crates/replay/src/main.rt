@@ -5,8 +5,8 @@
 // prints for `stdin`.
 use libc::STDIN_FILENO;
 use libc::STDOUT_FILENO;
-use network::word::wrapping_mul_u64;
 use phy::ci::RoundSlots;
+use random::word::wrapping_mul_u64;
 use sim::config::Answer;
 use sim::config::Config;
 use sim::entries::run_rows;

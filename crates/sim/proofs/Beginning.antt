@@ -7,12 +7,12 @@ use mathlib.Core.Logic.{inr}
 use native.Mathlib.Nat.{zero-mul, le-refl}
 use native.Mathlib.Omega.{arith}
 use lib.ListN.{replicate, length-replicate, getD-replicate}
-use Rattle.network.specs.Table.{tabulate}
+use Rattle.random.specs.Table.{tabulate}
 use Rattle.network.specs.Graph.{has, setOf}
-use Rattle.network.specs.Draws.{Before}
-use Rattle.network.specs.declared.draws.DrawSource.{DrawSource}
+use Rattle.random.specs.Draws.{Before}
+use Rattle.random.specs.declared.draws.DrawSource.{DrawSource}
 use Rattle.network.proofs.Sets.{never}
-use Rattle.network.proofs.Tables.{is-tabulate}
+use Rattle.random.proofs.Tables.{is-tabulate}
 use Rattle.phy.specs.declared.node.Node.{Node}
 use Rattle.phy.specs.declared.packet.Piggyback.{Piggyback}
 use Rattle.phy.specs.declared.slot.Flood.{Flood}

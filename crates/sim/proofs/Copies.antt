@@ -8,8 +8,8 @@ use native.Mathlib.Omega.{arith}
 use lib.Count.{ones}
 use lib.ListN.{length, getD, set, take}
 use lib.Seq.{sets, length-sets, take-all}
-use Rattle.network.specs.Table.{tabulate}
-use Rattle.network.proofs.Tables.{tabulate-snoc, getD-tabulate}
+use Rattle.random.specs.Table.{tabulate}
+use Rattle.random.proofs.Tables.{tabulate-snoc, getD-tabulate}
 use Rattle.protocol.specs.Paxos.{Entry, State, empty}
 use Rattle.protocol.specs.View.{entryAt, termAt, loggedSet, logOf, view}
 use Rattle.sim.specs.Round.{Record, stateOf}

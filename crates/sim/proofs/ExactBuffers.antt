@@ -7,8 +7,8 @@ use native.Mathlib.Nat.{eq-or-lt-of-le, le-of-suc-le-suc, zero-add, add-zero}
 use native.Mathlib.Omega.{arith}
 use lib.ListN.{length, getD, set, length-set}
 use lib.Seq.{sets, length-sets, getD-set-same, getD-set-other}
-use Rattle.network.specs.Table.{tabulate}
-use Rattle.network.proofs.Tables.{length-tabulate, getD-tabulate}
+use Rattle.random.specs.Table.{tabulate}
+use Rattle.random.proofs.Tables.{length-tabulate, getD-tabulate}
 use Rattle.protocol.specs.Paxos.{Entry, State}
 use Rattle.sim.specs.Round.{Record, stateOf}
 use Rattle.sim.specs.Entries.{terms, logsWith, numbersOf}

@@ -10,9 +10,9 @@ use borrow.Author.Tests.{ne-eqb, lt-leb, le-ltb}
 use lib.Dec.{leb, eqb}
 use lib.ListN.{length}
 use Rattle.network.specs.Graph.{all}
-use Rattle.network.specs.Table.{tabulate}
+use Rattle.random.specs.Table.{tabulate}
 use Rattle.network.proofs.Sets.{all-intro, all-false}
-use Rattle.network.proofs.Tables.{length-tabulate, getD-tabulate}
+use Rattle.random.proofs.Tables.{length-tabulate, getD-tabulate}
 use Rattle.phy.specs.Slot.{Standing}
 use Rattle.phy.proofs.Tries.{Even, successes-less}
 use Rattle.protocol.specs.Paxos.{State, empty, logged}

@@ -21,8 +21,8 @@ use Rattle.sim.proofs.ExactRounds.{exact-rounds}
 use Rattle.network.specs.Graph.{has, setOf, any, all, count, linked, widened}
 use Rattle.network.specs.Distance.{spread, reaches, firstWith, distance, links, greatest, eccentricity, diameter}
 use Rattle.network.specs.Topology.{topologyRow, topologyRows}
-use Rattle.network.specs.Reception.{fraction, heard}
-use Rattle.network.specs.Table.{tabulate}
+use Rattle.random.specs.Reception.{fraction, heard}
+use Rattle.random.specs.Table.{tabulate}
 use Rattle.phy.specs.Node.{tick, transition}
 use Rattle.phy.specs.Slot.{among, receivers, insert, attempt, attemptAll, store, takeOne, takeWhile, ticked, snapshot, triesIn, moved, slotStep, sumOf}
 use Rattle.phy.specs.Round.{begun, slots, delivered, participants, coverage, round}

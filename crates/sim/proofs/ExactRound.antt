@@ -11,8 +11,8 @@ use borrow.Author.Tests.{eqb-true, eqb-false, lt-ltb, le-ltb, ltb-true, ltb-fals
 use lib.Dec.{ltb, eqb}
 use lib.ListN.{getD, set, length-set}
 use Rattle.network.specs.Graph.{has}
-use Rattle.network.specs.Table.{tabulate}
-use Rattle.network.proofs.Tables.{length-tabulate, getD-tabulate, is-tabulate, tabulate-cong, tabulate-snoc}
+use Rattle.random.specs.Table.{tabulate}
+use Rattle.random.proofs.Tables.{length-tabulate, getD-tabulate, is-tabulate, tabulate-cong, tabulate-snoc}
 use Rattle.phy.specs.declared.packet.Piggyback.{Piggyback}
 use Rattle.protocol.specs.Paxos.{Entry, State, empty, logged, newlyBelow, newlyTo}
 use Rattle.protocol.specs.Turns.{Initiated, Taken, counted, initiatorTurn, participantTurn}

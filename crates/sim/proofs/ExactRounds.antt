@@ -5,8 +5,8 @@ use mathlib.Core.Path.{_≡_, sym, ap, _∙_, subst}
 use native.Mathlib.Omega.{arith}
 use lib.ListN.{length}
 use lib.Seq.{sets}
-use Rattle.network.specs.Table.{tabulate}
-use Rattle.network.proofs.Tables.{length-tabulate, getD-tabulate}
+use Rattle.random.specs.Table.{tabulate}
+use Rattle.random.proofs.Tables.{length-tabulate, getD-tabulate}
 use Rattle.protocol.specs.Paxos.{State, empty}
 use Rattle.text.specs.declared.listing.Summary.{Summary}
 use Rattle.sim.specs.Round.{Shared, Record, stateOf}

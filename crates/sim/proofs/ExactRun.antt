@@ -10,9 +10,9 @@ use native.Mathlib.Omega.{arith}
 use lib.ListN.{length, getElem?, replicate, length-append, length-replicate, getD-replicate}
 use Rattle.network.specs.Graph.{has, Checked}
 use Rattle.network.specs.Distance.{diameter}
-use Rattle.network.specs.Table.{tabulate}
+use Rattle.random.specs.Table.{tabulate}
 use Rattle.network.proofs.Sets.{has-setOf}
-use Rattle.network.proofs.Tables.{is-tabulate}
+use Rattle.random.proofs.Tables.{is-tabulate}
 use Rattle.network.proofs.Distances.{eccentricity-diameter}
 use Rattle.phy.specs.declared.node.Node.{Node}
 use Rattle.phy.specs.declared.ci.RoundSlots.{RoundSlots}

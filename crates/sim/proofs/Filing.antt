@@ -11,10 +11,10 @@ use lib.Dec.{eqb}
 use lib.ListN.{length, getD, set, take, length-set}
 use lib.Seq.{getD-take, getD-set-same, getD-set-other, take-set-le}
 use borrow.Author.Tests.{eq-eqb, ne-eqb}
-use Rattle.network.specs.Table.{tabulate}
+use Rattle.random.specs.Table.{tabulate}
 use Rattle.network.specs.Graph.{has, count}
 use Rattle.network.proofs.Sets.{and-both, count-le, count-lt}
-use Rattle.network.proofs.Tables.{tabulate-cong, tabulate-snoc}
+use Rattle.random.proofs.Tables.{tabulate-cong, tabulate-snoc}
 use Rattle.phy.specs.Slot.{among}
 use Rattle.phy.proofs.Attempts.{among-more}
 use Rattle.phy.proofs.Masks.{has-and, or-shifted-bit, has-insert}

@@ -5,8 +5,8 @@ use mathlib.Core.List.{List}
 use mathlib.Core.Logic.{_↔_}
 use mathlib.Core.Path.{_≡_, ap, subst}
 use native.Mathlib.Omega.{arith}
-use Rattle.network.specs.Reception.{lossless, received, heard}
-use Rattle.network.specs.Draws.{draw}
+use Rattle.random.specs.Reception.{lossless, received, heard}
+use Rattle.random.specs.Draws.{draw}
 use Rattle.phy.proofs.Tries.{Tallied, tallied-none, tallied-then, all-heard, none-lost}
 use Rattle.text.specs.declared.listing.Summary.{Summary}
 use Rattle.sim.specs.declared.config.Config.{Config}

@@ -13,7 +13,7 @@ use lib.ListN.{length, getD, set, take, length-set, List·getD-eq-default}
 use lib.Seq.{take-suc-set, take-take, getD-take, getD-set-same, getD-set-other, length-take-le}
 use borrow.Author.Tests.{lt-ltb, le-ltb, ltb-true}
 use Rattle.network.specs.Graph.{has}
-use Rattle.network.proofs.Tables.{length-tabulate, getD-tabulate, is-tabulate, tabulate-cong}
+use Rattle.random.proofs.Tables.{length-tabulate, getD-tabulate, is-tabulate, tabulate-cong}
 use Rattle.phy.specs.Slot.{among}
 use Rattle.phy.specs.declared.packet.LastAccepted.{LastAccepted}
 use Rattle.phy.specs.declared.packet.Packet.{Packet}

@@ -12,8 +12,8 @@ use lib.Ieee.{ofBits, binary64}
 use lib.ListN.{length, replicate}
 use Rattle.network.specs.Distance.{links, greatest, eccentricity, diameter}
 use Rattle.network.specs.Graph.{has, setOf, any, all, count, linked, widened}
-use Rattle.network.specs.Reception.{fraction, heard, received}
-use Rattle.network.specs.Table.{tabulate}
+use Rattle.random.specs.Reception.{fraction, heard, received}
+use Rattle.random.specs.Table.{tabulate}
 use Rattle.network.specs.Topology.{topologyRow, topologyRows}
 use Rattle.network.proofs.Starred.{diameters}
 use Rattle.phy.specs.Node.{tick, transition}

@@ -10,8 +10,8 @@ use lib.Dec.{leb, eqb, ltb}
 use lib.ListN.{length}
 use lib.Seq.{sets}
 use borrow.Author.Tests.{le-leb, lt-leb, eq-eqb, ne-eqb}
-use Rattle.network.specs.Reception.{Ready}
-use Rattle.network.proofs.Tables.{length-tabulate}
+use Rattle.random.specs.Reception.{Ready}
+use Rattle.random.proofs.Tables.{length-tabulate}
 use Rattle.phy.specs.Slot.{Shots}
 use Rattle.protocol.specs.Paxos.{State}
 use Rattle.protocol.proofs.Kept.{kept-mono}

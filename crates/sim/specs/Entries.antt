@@ -9,7 +9,7 @@ use Rattle.network.specs.Graph.{widened}
 use Rattle.network.specs.Questions.{nodesOf}
 use Rattle.network.specs.Topology.{topologyRows, topologyOf}
 use Rattle.network.specs.Distance.{diameter}
-use Rattle.network.specs.Reception.{heard}
+use Rattle.random.specs.Reception.{heard}
 use Rattle.phy.specs.declared.node.Node.{Node}
 use Rattle.phy.specs.Slot.{sumOf}
 use Rattle.protocol.specs.Paxos.{Entry, State}

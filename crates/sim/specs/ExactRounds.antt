@@ -7,7 +7,7 @@ use mathlib.Core.Path.{_≡_}
 use lib.ListN.{length, getD, getElem?}
 use Rattle.network.specs.Distance.{links, distance, eccentricity, Joined}
 use Rattle.network.specs.Questions.{nodesOf}
-use Rattle.network.specs.Table.{tabulate}
+use Rattle.random.specs.Table.{tabulate}
 use Rattle.network.specs.Topology.{topologyRows, topologyOf}
 use Rattle.phy.specs.declared.node.Node.{Node}
 use Rattle.phy.specs.declared.ci.RoundSlots.{RoundSlots}

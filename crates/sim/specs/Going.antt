@@ -4,7 +4,7 @@ use mathlib.Core.Path.{_≡_}
 use mathlib.Core.List.{List}
 use lib.Ieee.{Float}
 use lib.ListN.{length, replicate}
-use Rattle.network.specs.Reception.{Ready}
+use Rattle.random.specs.Reception.{Ready}
 use Rattle.phy.specs.declared.slot.Settings.{Settings}
 use Rattle.phy.specs.declared.slot.Flood.{Flood}
 use Rattle.phy.specs.View.{Sound, Stands}

@@ -4,7 +4,7 @@ use mathlib.Core.Bool.{true}
 use mathlib.Core.List.{List}
 use mathlib.Core.Logic.{_↔_}
 use mathlib.Core.Path.{_≡_}
-use Rattle.network.specs.Reception.{lossless}
+use Rattle.random.specs.Reception.{lossless}
 use Rattle.text.specs.declared.listing.Summary.{Summary}
 use Rattle.sim.specs.declared.config.Config.{Config}
 use Rattle.sim.specs.declared.config.Answer.the-variants.{Ran}

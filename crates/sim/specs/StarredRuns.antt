@@ -7,7 +7,7 @@ use lib.Ieee.{Float, ofBits, binary64}
 use lib.ListN.{replicate}
 use Rattle.network.specs.Distance.{diameter}
 use Rattle.network.specs.Questions.{nodesOf}
-use Rattle.network.specs.Reception.{received}
+use Rattle.random.specs.Reception.{received}
 use Rattle.network.specs.Topology.{topologyOf, topologyRows}
 use Rattle.phy.specs.declared.ci.RoundSlots.{RoundSlots}
 use Rattle.phy.specs.Round.{lengthLimit}

@@ -5,9 +5,9 @@ use mathlib.Core.Bool.{Bool, true, cond}
 use mathlib.Core.List.{List, [], _∷_, _++_}
 use lib.ListN.{length, getD, take}
 use lib.Seq.{sets}
-use Rattle.network.specs.Table.{tabulate}
+use Rattle.random.specs.Table.{tabulate}
 use Rattle.network.specs.Graph.{has, count}
-use Rattle.network.specs.Reception.{heard}
+use Rattle.random.specs.Reception.{heard}
 use Rattle.phy.specs.declared.packet.Packet.{Packet}
 use Rattle.phy.specs.declared.packet.Piggyback.{Piggyback}
 use Rattle.protocol.specs.Paxos.{State}

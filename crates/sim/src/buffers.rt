@@ -4,7 +4,7 @@ ghost use mathlib.Core.List.{[], _∷_};
 ghost use Prim.Native.Nat.{ℕ, _+_, _*_, _≤_, _<_};
 ghost use lib.ListN.{length, getD};
 ghost use lib.Seq.{sets};
-ghost use Rattle.network.specs.Table.{tabulate};
+ghost use Rattle.random.specs.Table.{tabulate};
 ghost use Rattle.protocol.specs.View.{logOf, Kept};
 ghost use Rattle.sim.specs.Entries.{terms, logsWith, numbersOf};
 ghost use Rattle.sim.specs.View.{Filed, recordsOf, statesOf, AllKept};

@@ -4,10 +4,10 @@ mod published;
 
 ghost use Prim.Native.Nat.{_≤_};
 use libc::STDOUT_FILENO;
-use network::chacha::Quad;
-use network::chacha::block;
-use network::chacha::quarter_round;
-use network::draws::draws;
+use random::chacha::Quad;
+use random::chacha::block;
+use random::chacha::quarter_round;
+use random::draws::draws;
 
 // One line: what was compared, and how many of how many were equal.
 fn report(what: &[u8], equal: u64, of: u64) {

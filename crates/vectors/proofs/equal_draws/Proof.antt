@@ -4,7 +4,7 @@ use Rattle.vectors.proofs.equal_draws.Statement.{statement}
 use Rattle.vectors.proofs.equal_draws.Tie as tie
 use Rattle.vectors.proofs.equal_draws.Reads as reads
 use Rattle.vectors.proofs.equal_draws.Lts as lts
-use Rattle.network.proofs.draws.draws.Reads as draws-reads
+use Rattle.random.proofs.draws.draws.Reads as draws-reads
 use Rattle.vectors.proofs.one_if.Reads as one-if-reads
 
 abbrev Inv-loop : tie.InvT-loop

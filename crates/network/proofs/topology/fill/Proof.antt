@@ -6,7 +6,7 @@ use Prim.Native.Nat.{ℕ, _≤_, _<_, _-_, zero-le}
 use native.Mathlib.Omega.{arith}
 use borrow.Author.Needs.{needs}
 use lib.ListN.{length, drop, set, length-set}
-use Rattle.network.specs.Table.{tabulate}
+use Rattle.random.specs.Table.{tabulate}
 use Rattle.network.specs.Topology.{topologyRow, topologyRows, withRows}
 use Rattle.network.proofs.Rows.{tabulate-more}
 use Rattle.network.proofs.topology.fill.Statement.{statement}

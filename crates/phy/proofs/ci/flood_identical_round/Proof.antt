@@ -4,7 +4,7 @@ use borrow.Author.Needs.{needs}
 use lib.ListN.{length, length-set}
 use denote.Ref.{now}
 use Prim.Native.Nat.{ℕ}
-use Rattle.network.specs.Reception.{Ready}
+use Rattle.random.specs.Reception.{Ready}
 use Rattle.phy.specs.declared.slot.Flood.{Flood}
 use Rattle.phy.specs.Round.{round}
 use Rattle.phy.specs.View.{Sound}

@@ -4,7 +4,7 @@ use mathlib.Core.List.{List}
 use native.Mathlib.Omega.{arith}
 use lib.ListN.{length}
 use denote.Ref.{now}
-use Rattle.network.specs.Reception.{Ready}
+use Rattle.random.specs.Reception.{Ready}
 use Rattle.phy.specs.Slot.{Standing, slotStep}
 use Rattle.phy.specs.Round.{slots}
 use Rattle.phy.specs.View.{Sound, Stands, Meets, setupOf}

@@ -5,7 +5,7 @@ use native.Mathlib.Omega.{arith}
 use lib.Dec.{eqb}
 use lib.ListN.{getD}
 use Rattle.network.specs.Graph.{has, setOf}
-use Rattle.network.proofs.Tables.{Changed, changed-none, changed-more}
+use Rattle.random.proofs.Tables.{Changed, changed-none, changed-more}
 use Rattle.phy.specs.declared.slot.Awake.{Awake}
 use Rattle.phy.specs.View.{leftAfter}
 use Rattle.phy.proofs.Nodes.{setOf-at}

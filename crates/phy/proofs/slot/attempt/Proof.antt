@@ -3,7 +3,7 @@ use mathlib.Core.Path.{_≡_, sym, ap, _∙_}
 use mathlib.Core.Bool.{Bool, true, false}
 use native.Mathlib.Omega.{arith}
 use borrow.Author.Needs.{needs}
-use Rattle.network.specs.Reception.{heard}
+use Rattle.random.specs.Reception.{heard}
 use Rattle.phy.specs.Slot.{attemptBy, attempt, attemptAll}
 use Rattle.phy.specs.View.{triesOf}
 use Rattle.phy.proofs.Masks.{or-shifted-bit}

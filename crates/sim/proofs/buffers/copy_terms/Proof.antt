@@ -2,8 +2,8 @@ use Prim.Native.Nat.{ℕ, _+_, _-_}
 use mathlib.Core.Path.{refl, sym}
 use native.Mathlib.Omega.{arith}
 use lib.ListN.{getD}
-use Rattle.network.specs.Table.{tabulate}
-use Rattle.network.proofs.Tables.{length-tabulate, getD-tabulate}
+use Rattle.random.specs.Table.{tabulate}
+use Rattle.random.proofs.Tables.{length-tabulate, getD-tabulate}
 use Rattle.sim.proofs.Copies.{Copied, copied-none, copied-more, copied-all, copied-length}
 use Rattle.sim.proofs.buffers.copy_terms.Statement.{statement}
 use Rattle.sim.proofs.buffers.copy_terms.Tie as tie

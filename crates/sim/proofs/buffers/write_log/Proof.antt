@@ -7,8 +7,8 @@ use denote.Ref.{now}
 use lib.Count.{ones}
 use lib.ListN.{length, set}
 use lib.Seq.{sets}
-use Rattle.network.specs.Table.{tabulate}
-use Rattle.network.proofs.Tables.{length-tabulate}
+use Rattle.random.specs.Table.{tabulate}
+use Rattle.random.proofs.Tables.{length-tabulate}
 use Rattle.protocol.specs.View.{loggedSet, termAt}
 use Rattle.protocol.proofs.Frame.{log-room, term-logged, logged-lt}
 use Rattle.sim.proofs.Copies.{log-terms}

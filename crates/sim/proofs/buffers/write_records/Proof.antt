@@ -4,8 +4,8 @@ use native.Mathlib.Omega.{arith}
 use denote.Ref.{now}
 use lib.ListN.{getD}
 use lib.Seq.{sets}
-use Rattle.network.specs.Table.{tabulate}
-use Rattle.network.proofs.Tables.{length-tabulate, getD-tabulate}
+use Rattle.random.specs.Table.{tabulate}
+use Rattle.random.proofs.Tables.{length-tabulate, getD-tabulate}
 use Rattle.sim.proofs.Copies.{Copied, copied-none, copied-more, copied-all, copied-length, numbers-are}
 use Rattle.sim.proofs.buffers.write_records.Statement.{statement}
 use Rattle.sim.proofs.buffers.write_records.Tie as tie

@@ -1,4 +1,4 @@
-use Rattle.network.proofs.Fractions.{zero-bits}
+use Rattle.random.proofs.Fractions.{zero-bits}
 use Rattle.sim.specs.Questions.{rateAllowed}
 use Rattle.sim.proofs.Rates.{one-bits}
 use Rattle.sim.proofs.questions.rate_allowed.Statement.{statement}

@@ -5,7 +5,7 @@ use native.Mathlib.Omega.{arith}
 use borrow.Author.Needs.{needs}
 use lib.ListN.{length-append}
 use denote.Ref.{now}
-use Rattle.network.specs.Reception.{heard}
+use Rattle.random.specs.Reception.{heard}
 use Rattle.phy.specs.Round.{Flooded, lengthLimit, round}
 use Rattle.sim.specs.Round.{Prepared, prepareRound, processRound}
 use Rattle.sim.specs.Run.{setupOf, runRound}

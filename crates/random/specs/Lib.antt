@@ -1,0 +1,7 @@
+-- What is right for the crate `random`.
+pub mod Table
+pub mod Word
+pub mod Seed
+pub mod ChaCha
+pub mod Draws
+pub mod Reception

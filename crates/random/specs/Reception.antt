@@ -1,0 +1,30 @@
+-- Fraction and reception (document 01, "Units and draws").
+use Prim.Native.Nat.{ℕ, _/_, _^_}
+use mathlib.Core.Bool.{Bool, true, false, _||_}
+use mathlib.Core.Logic.{_⊎_}
+use lib.IntN.{pos}
+use lib.Dec.{T}
+use lib.Ieee as Ieee
+use lib.Ieee.{Float, fin, binary64}
+use Rattle.random.specs.Draws.{draw, Before}
+use Rattle.random.specs.declared.draws.DrawSource.{DrawSource}
+
+-- m / 2^53 as an f64, m the draw's top 53 bits; that it is exact is the law `fraction-exact`
+unfoldable pub fraction : ℕ → Float
+fraction d = Ieee.round binary64 false (d / 2 ^ 11) (2 ^ 53)
+
+-- the rate is 0 or minus 0
+abbrev pub lossless : Float → Bool
+lossless rate = Ieee.eq rate (fin false 0 (pos 0))
+
+-- a reception with this draw succeeds: the fraction is at least the loss rate
+abbrev pub received : Float → ℕ → Bool
+received rate d = Ieee.le rate (fraction d)
+
+-- attempt k of a seed's run is heard: one draw an attempt, and none where the rate is 0
+unfoldable pub heard : Float → ℕ → ℕ → Bool
+heard rate seed k = lossless rate || received rate (draw seed k)
+
+-- the source is ready for attempt k: k draws are given, or none is ever taken
+abbrev pub Ready : Float → ℕ → ℕ → DrawSource → Type 0
+Ready rate seed k s = T (lossless rate) ⊎ Before seed k s

@@ -1,0 +1,124 @@
+// ChaCha after RFC 8439, section 2, with the number of double rounds as a parameter.
+ghost use mathlib.Core.Path.{_≡_};
+ghost use Prim.Native.Nat.{_<_};
+ghost use Rattle.random.specs.ChaCha as ChaCha;
+use super::word::rotate_left;
+
+// Four words of the state.
+pub struct Quad {
+    pub a: u32,
+    pub b: u32,
+    pub c: u32,
+    pub d: u32,
+}
+
+// The quarter round on four words.
+pub fn quarter_round(q: Quad) -> Quad
+    ensures { λ r. ⌜ r ≡ ChaCha.quarter q ⌝ }
+{
+    let a1 = std::num::wrapping_add_u32(q.a, q.b);
+    let d1 = rotate_left(q.d ^ a1, 16);
+    let c1 = std::num::wrapping_add_u32(q.c, d1);
+    let b1 = rotate_left(q.b ^ c1, 12);
+    let a2 = std::num::wrapping_add_u32(a1, b1);
+    let d2 = rotate_left(d1 ^ a2, 8);
+    let c2 = std::num::wrapping_add_u32(c1, d2);
+    let b2 = rotate_left(b1 ^ c2, 7);
+    Quad {
+        a: a2,
+        b: b2,
+        c: c2,
+        d: d2,
+    }
+}
+
+// The quarter round at four places of the state.
+fn quarter_at(s: [u32; 16], x: usize, y: usize, z: usize, w: usize) -> [u32; 16]
+    requires { ⌜ (x < 16) × (y < 16) × (z < 16) × (w < 16) ⌝ }
+    ensures { λ r. ⌜ r ≡ ChaCha.quarterAt s x y z w ⌝ }
+{
+    let q = quarter_round(Quad {
+        a: s[x],
+        b: s[y],
+        c: s[z],
+        d: s[w],
+    });
+    let mut t = s;
+    t[x] = q.a;
+    t[y] = q.b;
+    t[z] = q.c;
+    t[w] = q.d;
+    t
+}
+
+fn column_round(s: [u32; 16]) -> [u32; 16]
+    ensures { λ r. ⌜ r ≡ ChaCha.columnRound s ⌝ }
+{
+    let s1 = quarter_at(s, 0, 4, 8, 12);
+    let s2 = quarter_at(s1, 1, 5, 9, 13);
+    let s3 = quarter_at(s2, 2, 6, 10, 14);
+    quarter_at(s3, 3, 7, 11, 15)
+}
+
+fn diagonal_round(s: [u32; 16]) -> [u32; 16]
+    ensures { λ r. ⌜ r ≡ ChaCha.diagonalRound s ⌝ }
+{
+    let s1 = quarter_at(s, 0, 5, 10, 15);
+    let s2 = quarter_at(s1, 1, 6, 11, 12);
+    let s3 = quarter_at(s2, 2, 7, 8, 13);
+    quarter_at(s3, 3, 4, 9, 14)
+}
+
+// The state after that many double rounds, a column round and a diagonal round each.
+fn rounds(double_rounds: u32, s: [u32; 16]) -> [u32; 16]
+    ensures { λ r. ⌜ r ≡ ChaCha.rounds «double_rounds» s ⌝ }
+{
+    let mut t = s;
+    for i in 0..double_rounds {
+        t = diagonal_round(column_round(t));
+    }
+    t
+}
+
+// The state that a block starts from: the constants, the key, and the last four words.
+fn start(key: [u32; 8], last: [u32; 4]) -> [u32; 16]
+    ensures { λ r. ⌜ r ≡ ChaCha.start key last ⌝ }
+{
+    [
+        0x61707865,
+        0x3320646e,
+        0x79622d32,
+        0x6b206574,
+        key[0],
+        key[1],
+        key[2],
+        key[3],
+        key[4],
+        key[5],
+        key[6],
+        key[7],
+        last[0],
+        last[1],
+        last[2],
+        last[3],
+    ]
+}
+
+// The words of a and b added, place by place.
+fn sums(a: [u32; 16], b: [u32; 16]) -> [u32; 16]
+    ensures { λ r. ⌜ r ≡ ChaCha.sums a b ⌝ }
+{
+    let mut t = [0u32; 16];
+    for i in 0..16 {
+        t[i] = std::num::wrapping_add_u32(a[i], b[i]);
+    }
+    t
+}
+
+// One block of sixteen words. The last four words of its state are RFC 8439's counter and nonce.
+pub fn block(double_rounds: u32, key: [u32; 8], last: [u32; 4]) -> [u32; 16]
+    ensures { λ r. ⌜ r ≡ ChaCha.block «double_rounds» key last ⌝ }
+{
+    let s = start(key, last);
+    sums(rounds(double_rounds, s), s)
+}
