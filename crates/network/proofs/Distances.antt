@@ -195,9 +195,6 @@ module _ (rows : List ℕ) (n : ℕ) (ck : Checked rows n) where
   unfolding diameter
   eccentricity-diameter a h = greatest-bound n (eccentricity rows n) a h
 
-  pub distance-diameter : (a b k : ℕ) → a < n → b < n → distance rows n a b ≡ some k → k ≤ diameter rows n
-  distance-diameter a b k ha hb e = le-trans (eccentricity-bound a b k hb e) (eccentricity-diameter a ha)
-
   pub diameter-at : 0 < n → (a b : ℕ) × (a < n) × (b < n) × (distance rows n a b ≡ some (diameter rows n))
   unfolding diameter
   diameter-at h =

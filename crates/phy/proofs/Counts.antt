@@ -3,7 +3,6 @@ use Prim.Native.Nat.{ℕ, zero, suc, _+_, _*_, _≤_, _<_}
 use mathlib.Core.Path.{_≡_, refl, sym, subst, ap, _∙_}
 use mathlib.Core.List.{List}
 use mathlib.Core.Logic.{⊎-elim}
-use native.Mathlib.Nat.{le-refl}
 use native.Mathlib.Omega.{arith}
 use lib.Dec.{ltb}
 use Rattle.network.proofs.Sets.{two}
@@ -26,9 +25,6 @@ module _ (g : Setup) (R : Standing → Standing → Type 0) (same : (s : Standin
       (two (ltb 0 (howMany isFlooding (slotStep g s .nodes) (g .nodes))))
 
 -- ---- the length of a round
--- slots only pass, and no more than are left
-pub slots-least : (g : Setup) (left : ℕ) (s : Standing) → s .slot ≤ slots g left s .slot
-slots-least g = along-slots g (λ s t. s .slot ≤ t .slot) (λ s. le-refl (s .slot)) (λ s t h. unfold slotStep in omega (arith, h))
 
 pub slots-most : (g : Setup) (left : ℕ) (s : Standing) → slots g left s .slot ≤ s .slot + left
 unfolding slots slotStep
@@ -42,10 +38,6 @@ slots-most g (suc left) s =
 pub round-most : (g : Setup) (limit initiator : ℕ) (packet : Packet) (s : Standing) → round g limit initiator packet s .after .slot ≤ s .slot + limit
 unfolding round
 round-most g limit initiator packet s = slots-most g limit (withNodes (begun (g .nodes) (g .repeats) initiator packet (s .nodes)) s)
-
-pub round-least : (g : Setup) (limit initiator : ℕ) (packet : Packet) (s : Standing) → s .slot ≤ round g limit initiator packet s .after .slot
-unfolding round
-round-least g limit initiator packet s = slots-least g limit (withNodes (begun (g .nodes) (g .repeats) initiator packet (s .nodes)) s)
 
 -- ---- one node's counts: from s to t they grow by the slots between
 abbrev pub Counted : ℕ → Standing → Standing → Type 0

@@ -243,13 +243,6 @@ lossless-round g limit a packet s ck joined ha pos enough all =
     asleep : (j : ℕ) → j < g .nodes → isSleeping (at after j) ≡ true
     asleep j h = ap isSleeping (node j h) ∙ ap sleeps (ends j h .asleep)
 
--- where every attempt is heard
-pub lossless-heard : (g : Setup) (limit a : ℕ) (packet : Packet) (s : Standing)
-    → Checked (g .rows) (g .nodes) → Joined (g .rows) (g .nodes) → a < g .nodes → 1 ≤ g .repeats → eccentricity (g .rows) (g .nodes) a + g .repeats ≤ limit
-    → ((k : ℕ) → g .heard k ≡ true)
-    → Lossless g a packet s (round g limit a packet s)
-lossless-heard g limit a packet s ck joined ha pos enough all = lossless-round g limit a packet s ck joined ha pos enough (λ k low high. all k)
-
 -- where attempts and successes grow by the same number
 pub lossless-tries : (g : Setup) (limit a : ℕ) (packet : Packet) (s : Standing)
     → Checked (g .rows) (g .nodes) → Joined (g .rows) (g .nodes) → a < g .nodes → 1 ≤ g .repeats → eccentricity (g .rows) (g .nodes) a + g .repeats ≤ limit

@@ -146,9 +146,6 @@ module _ {n : ℕ} {heard : ℕ → Bool} {s t : Standing} (r : Tallied n heard 
   pub attempts-grow : s .attempts ≤ t .attempts
   attempts-grow = omega (arith, r .attempts)
 
-  pub successes-grow : s .successes ≤ t .successes
-  successes-grow = omega (arith, r .successes)
-
   pub successes-less : t .successes + s .attempts ≤ s .successes + t .attempts
   successes-less = omega (arith, r .attempts, r .successes, count-le (r .made) (λ (k : ℕ). heard (s .attempts + k)))
 
@@ -167,10 +164,6 @@ module _ {n : ℕ} {heard : ℕ → Bool} {s t : Standing} (r : Tallied n heard 
   pub none-lost : NoneLost heard s t → Even s t
   none-lost h =
       omega (arith, r .attempts, r .successes, count-all (r .made) (λ (i : ℕ). heard (s .attempts + i)) (λ k b. h (s .attempts + k) (omega arith) (omega (arith, r .attempts))))
-
--- what grew by the same number over two parts did so over each
-pub even-parts : {n : ℕ} {heard : ℕ → Bool} {s t u : Standing} → Tallied n heard s t → Tallied n heard t u → Even s u → (Even s t) × (Even t u)
-even-parts a b e = (omega (arith, successes-less a, successes-less b, e), omega (arith, successes-less a, successes-less b, e))
 
 -- a round's first slot makes no more attempts than the round
 pub first-attempts : (g : Setup) (left : ℕ) (s : Standing) → slotStep g s .attempts ≤ slots g (suc left) s .attempts

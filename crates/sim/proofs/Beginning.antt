@@ -23,10 +23,10 @@ use Rattle.phy.proofs.Masks.{has-zero}
 use Rattle.phy.proofs.Count.{count-none}
 use Rattle.protocol.specs.Paxos.{empty}
 use Rattle.protocol.proofs.Frame.{fresh-view, fresh-kept, zeros as no-start}
-use Rattle.sim.specs.declared.pipeline.Shared.{Shared as Carried}
-use Rattle.sim.specs.Round.{recorded}
+use Rattle.pipeline.specs.declared.shared.Shared.{Shared as Carried}
+use Rattle.pipeline.specs.Round.{recorded}
 use Rattle.sim.specs.Run.{Given, begin}
-use Rattle.sim.specs.View.{Filed, Sharing, statesOf, recordsOf, recordedOf, sharedOf}
+use Rattle.pipeline.specs.View.{Filed, Sharing, statesOf, recordsOf, recordedOf, sharedOf}
 use Rattle.sim.specs.Going.{NewFlood, NewRun, zeros}
 use Rattle.sim.proofs.Full.{full-set}
 use Rattle.sim.proofs.Sums.{sum-new}

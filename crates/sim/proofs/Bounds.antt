@@ -15,7 +15,7 @@ use Rattle.phy.proofs.Due.{Due, due-none, due-round, due-count}
 use Rattle.phy.proofs.Tries.{Tallied, tallied-none, tallied-then, successes-most}
 use Rattle.protocol.specs.Paxos.{empty}
 use Rattle.text.specs.declared.listing.Summary.{Summary}
-use Rattle.sim.specs.Round.{Prepared, stateOf, recorded, initiatorOf, prepareRound, processRound}
+use Rattle.pipeline.specs.Round.{Prepared, stateOf, recorded, initiatorOf, prepareRound, processRound}
 use Rattle.sim.specs.Run.{Given, Past, Running, begin, setupOf, runRound, run}
 use Rattle.sim.specs.Entries.{summaryOf}
 use Rattle.sim.specs.ExactRounds.{givenFor}

@@ -5,16 +5,15 @@ use mathlib.Core.List.{List, [], _∷_, _++_, append-assoc}
 use native.Mathlib.Nat.{le-antisymm, le-refl, add-zero}
 use native.Mathlib.Numerals.{add-one}
 use native.Mathlib.Omega.{arith}
-use lib.Count.{ones}
 use lib.ListN.{length, getD, set, take}
 use lib.Seq.{sets, length-sets, take-all}
 use Rattle.random.specs.Table.{tabulate}
 use Rattle.random.proofs.Tables.{tabulate-snoc, getD-tabulate}
-use Rattle.protocol.specs.Paxos.{Entry, State, empty}
-use Rattle.protocol.specs.View.{entryAt, termAt, loggedSet, logOf, view}
-use Rattle.sim.specs.Round.{Record, stateOf}
+use Rattle.protocol.specs.Paxos.{State, empty}
+use Rattle.protocol.specs.View.{logOf, view}
+use Rattle.pipeline.specs.Round.{Record, stateOf}
 use Rattle.sim.specs.Entries.{terms, logsWith, numbersOf}
-use Rattle.sim.specs.View.{recordAt, recordsOf, statesOf}
+use Rattle.pipeline.specs.View.{recordAt, recordsOf, statesOf}
 
 -- ---- the first n places of s are copied to a list from the place `at` on, and k of them are done
 pub record Copied (s before : List ℕ) (at n : ℕ) (after : List ℕ) (k : ℕ) : Type 0 where
@@ -45,26 +44,6 @@ copied-all {s} {before} {after} {at} d h e = d .contents ∙ ap (λ (j : ℕ). s
 
 pub copied-length : {s before after : List ℕ} {at n k : ℕ} → Copied s before at n after k → length after ≡ length before
 copied-length {s} {before} {after} {at} {n} {k} d = ap length (d .contents) ∙ length-sets before at (take k s)
-
--- ---- the terms of a log, in its places
-terms-snoc : (l : List Entry) (e : Entry) → terms (l ++ (e ∷ [])) ≡ terms l ++ (e .term ∷ [])
-terms-snoc [] e = refl
-terms-snoc (x ∷ l) e = ap (λ (m : List ℕ). x .term ∷ m) (terms-snoc l e)
-
-terms-of : (b : List ℕ) (at n : ℕ) → terms (tabulate n (entryAt b at)) ≡ tabulate n (termAt b at)
-unfolding tabulate
-terms-of b at zero = refl
-terms-of b at (suc n) =
-    ap (λ (k : ℕ). terms (tabulate k (entryAt b at))) (sym (add-one n))
-    ∙ ap terms (tabulate-snoc n (entryAt b at))
-    ∙ terms-snoc (tabulate n (entryAt b at)) (entryAt b at n)
-    ∙ ap (λ (l : List ℕ). l ++ (termAt b at n ∷ [])) (terms-of b at n)
-    ∙ sym (tabulate-snoc n (termAt b at))
-    ∙ ap (λ (k : ℕ). tabulate k (termAt b at)) (add-one n)
-
-pub log-terms : (b : List ℕ) (at : ℕ) → terms (logOf b at) ≡ tabulate (ones (loggedSet b at)) (termAt b at)
-unfolding logOf
-log-terms b at = terms-of b at (ones (loggedSet b at))
 
 -- ---- the logs, one node after the other
 pub logs-more : (old : List ℕ) (n i : ℕ) (x : List ℕ) → i < n →

@@ -12,7 +12,7 @@ use Rattle.network.proofs.Sets.{two}
 use Rattle.phy.specs.Round.{lengthLimit}
 use Rattle.phy.proofs.Tries.{Tallied, tallied-round}
 use Rattle.protocol.specs.Paxos.{State, empty}
-use Rattle.sim.specs.Round.{stateOf, initiatorOf, prepareRound, shortestFrom, shortestLog}
+use Rattle.pipeline.specs.Round.{stateOf, initiatorOf, prepareRound, shortestFrom, shortestLog}
 use Rattle.sim.specs.Run.{Given, Running, Ended, setupOf, runRound, endAfter, roundsFrom}
 
 module _ (g : Given) (most k : ℕ) (r : Running) where

@@ -10,7 +10,7 @@ use lib.Seq.{sets, length-sets, getD-set-same, getD-set-other}
 use Rattle.random.specs.Table.{tabulate}
 use Rattle.random.proofs.Tables.{length-tabulate, getD-tabulate}
 use Rattle.protocol.specs.Paxos.{Entry, State}
-use Rattle.sim.specs.Round.{Record, stateOf}
+use Rattle.pipeline.specs.Round.{Record, stateOf}
 use Rattle.sim.specs.Entries.{terms, logsWith, numbersOf}
 use Rattle.sim.proofs.Claimed.{entryOf, entries}
 use Rattle.sim.proofs.ExactRound.{tabulate-next}

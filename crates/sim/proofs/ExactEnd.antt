@@ -17,7 +17,7 @@ use Rattle.phy.specs.Slot.{Standing}
 use Rattle.phy.proofs.Tries.{Even, successes-less}
 use Rattle.protocol.specs.Paxos.{State, empty, logged}
 use Rattle.protocol.proofs.Places.{either}
-use Rattle.sim.specs.Round.{Shared, stateOf}
+use Rattle.pipeline.specs.Round.{Shared, stateOf}
 use Rattle.sim.specs.Run.{Given, Running, Ended, begin, runRound, complete, endAfter, roundsFrom, run}
 use Rattle.sim.specs.ExactRounds.{firstSlot, roundsOf, Suited}
 use Rattle.sim.proofs.Ends.{from-next, from-end, along-rounds, tallied-next}

@@ -30,7 +30,7 @@ use Rattle.phy.specs.Packets.{samePacket}
 use Rattle.protocol.specs.Paxos.{unionIn, union, size, logged, hold, holdNew, mergeVotesUpTo, greatestQuorum, commitTerm, commitBelow, newlyBelow, commitTo, newlyTo, gapIn, detectGap, find, recovery}
 use Rattle.protocol.specs.Turns.{announce, initiatorTurn, takeData, takePiggyback, takeVotes, participantTurn}
 use Rattle.sim.specs.Questions.{rateAllowed, rowsRefusal, topologyRefusal}
-use Rattle.sim.specs.Round.{recorded, recordAll, prepareRound, takeTurn, turns, processRound, shortestFrom}
+use Rattle.pipeline.specs.Round.{recorded, recordAll, prepareRound, takeTurn, turns, processRound, shortestFrom}
 use Rattle.sim.specs.Run.{runRound, complete, endAfter, roundsFrom, run}
 use Rattle.sim.specs.Entries.{logsWith, numbersOf, ranWith, runOfRows, runOfTopology}
 

@@ -18,7 +18,7 @@ use Rattle.protocol.specs.Paxos.{Entry, State, empty, logged, newlyBelow, newly
 use Rattle.protocol.specs.Turns.{Initiated, Taken, counted, initiatorTurn, participantTurn}
 use Rattle.protocol.proofs.Places.{either, getD-set}
 use Rattle.protocol.proofs.Commit.{newly-skip}
-use Rattle.sim.specs.Round.{Record, Shared, Prepared, stateOf, latest, onePiggyback, recorded, recordAll, prepareRound, takeTurn, turns, processRound}
+use Rattle.pipeline.specs.Round.{Record, Shared, Prepared, stateOf, latest, onePiggyback, recorded, recordAll, prepareRound, takeTurn, turns, processRound}
 use Rattle.sim.proofs.Claimed.{entries, lastOf, is-logged, not-logged}
 use Rattle.sim.proofs.ExactTurns.{Fits, claimed, announced, proposesAt, sent, initiated, taken, taken-own}
 

@@ -9,7 +9,7 @@ use Rattle.random.specs.Table.{tabulate}
 use Rattle.random.proofs.Tables.{length-tabulate, getD-tabulate}
 use Rattle.protocol.specs.Paxos.{State, empty}
 use Rattle.text.specs.declared.listing.Summary.{Summary}
-use Rattle.sim.specs.Round.{Shared, Record, stateOf}
+use Rattle.pipeline.specs.Round.{Shared, Record, stateOf}
 use Rattle.sim.specs.Run.{Given, run}
 use Rattle.sim.specs.Entries.{Outcome, terms, numbersOf, summaryOf, ranWith}
 use Rattle.sim.specs.ExactRounds.{slotsIn, firstSlot, roundsOf, ExactRecord, ExactRounds, givenFor, Suited, Demand3}

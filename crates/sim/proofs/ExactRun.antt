@@ -23,7 +23,7 @@ use Rattle.phy.proofs.Lossless.{Lossless, lossless-tries, limit-enough}
 use Rattle.protocol.specs.Paxos.{empty}
 use Rattle.protocol.proofs.Kept.{state-is}
 use Rattle.phy.specs.Slot.{sumOf}
-use Rattle.sim.specs.Round.{Shared, Prepared, initiatorOf, prepareRound, processRound}
+use Rattle.pipeline.specs.Round.{Shared, Prepared, initiatorOf, prepareRound, processRound}
 use Rattle.sim.specs.Run.{Given, Past, Running, begin, setupOf, runRound}
 use Rattle.sim.specs.ExactRounds.{sum, distanceIn, farthest, slotsIn, firstSlot, roundsOf, ExactRound, AbsentOrAtLeast, Suited}
 use Rattle.sim.proofs.Claimed.{entries, waits-high}

@@ -1,6 +1,4 @@
 -- The laws that several proofs of the crate use.
---     Filing       records: one more, in the table and in the list
---     Sharing      what the nodes share between rounds
 --     Rounds       a round of the code beside a round of the definitions
 --     Beginning    a run before its first round
 --     Ends         one round more, or an end; what every round keeps
@@ -24,9 +22,7 @@
 --     Tallies      what the nodes share grows by little in a round
 --     Bounds       bounds on the counts of every accepted run
 --     StarredRuns  document 01's starred runs, in one table
-pub mod Filing
 pub mod Full
-pub mod Sharing
 pub mod Rounds
 pub mod Beginning
 pub mod Ends

@@ -5,6 +5,7 @@ use mathlib.Core.Bool.{true}
 use mathlib.Core.List.{List}
 use native.Mathlib.Nat.{mul-le-mul}
 use native.Mathlib.Omega.{arith}
+use lib.ListN.{length, length-append}
 use borrow.Author.Tests.{leb-true}
 use Rattle.network.proofs.Sets.{count-le}
 use Rattle.phy.specs.declared.ci.RoundSlots.{RoundSlots}
@@ -15,6 +16,7 @@ use Rattle.phy.specs.Round.{Flooded, lengthLimit, round, coverage}
 use Rattle.phy.specs.View.{Sound, Stands}
 use Rattle.sim.specs.declared.config.Config.{Config}
 use Rattle.sim.specs.Questions.{slotsAllowed}
+use Rattle.sim.specs.Run.{Given, Running, runRound}
 use Rattle.sim.specs.Going.{settingsOf}
 
 -- a round has at most 4,096 slots
@@ -36,3 +38,8 @@ covered-few g limit initiator packet s = count-le (g .nodes) _
 -- the code stands where an equal round leads
 pub stands-as : {n : ℕ} {x : Flood} {l h b : List ℕ} {f g : Flooded} → f ≡ g → Stands n x l h b (f .after) → Stands n x l h b (g .after)
 stands-as {n} {x} {l} {h} {b} e = subst (λ (y : Flooded). Stands n x l h b (y .after)) e
+
+-- a round more was run
+pub rounds-more : (g : Given) (k : ℕ) (r : Running) → length (runRound g k r .rounds) ≡ length (r .rounds) + 1
+unfolding runRound
+rounds-more g k r = length-append (r .rounds) _

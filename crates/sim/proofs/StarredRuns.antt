@@ -35,7 +35,7 @@ use Rattle.sim.specs.Entries.{logsWith, numbersOf, summaryOf, ranWith, o
 use Rattle.sim.specs.ExactRounds.{Asked, ofRows, ofTopology, givenFor, outcomeFor}
 use Rattle.sim.specs.Printed.{lineText, printed}
 use Rattle.sim.specs.Questions.{rateAllowed, rowsRefusal, topologyRefusal}
-use Rattle.sim.specs.Round.{recorded, recordAll, prepareRound, takeTurn, turns, processRound, shortestFrom}
+use Rattle.pipeline.specs.Round.{recorded, recordAll, prepareRound, takeTurn, turns, processRound, shortestFrom}
 use Rattle.sim.specs.Run.{Given, Ended, begin, runRound, complete, endAfter, roundsFrom, run}
 use Rattle.sim.specs.StarredRuns.{StarRun, idleConfig, half, StarredRuns}
 use Rattle.sim.proofs.Ends.{from-limit, from-end}

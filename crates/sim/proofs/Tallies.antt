@@ -18,9 +18,9 @@ use Rattle.phy.specs.declared.packet.Piggyback.{Piggyback}
 use Rattle.protocol.specs.Paxos.{Entry, State, logged, vote, held, put, hold, holdNew, mergeVotesUpTo, raise, entry, greatestQuorum, commitTerm, commitBelow, commitTo, newlyBelow, newlyTo}
 use Rattle.protocol.specs.Turns.{propose, announce, initiatorTurn, takeData, takePiggyback, takeVotes, participantTurn}
 use Rattle.protocol.specs.View.{lastBelow}
-use Rattle.sim.specs.Round.{Record, Shared, stateOf, recorded, recordAll, prepareRound, takeTurn, turns, cleared, processRound}
-use Rattle.sim.proofs.Filing.{recorded-append, recordAll-append, record-known, record-new}
-use Rattle.sim.proofs.Sharing.{greatest-below, at-most-one, one-at-most}
+use Rattle.pipeline.specs.Round.{Record, Shared, stateOf, recorded, recordAll, prepareRound, takeTurn, turns, cleared, processRound}
+use Rattle.pipeline.proofs.Filing.{recorded-append, recordAll-append, record-known, record-new}
+use Rattle.pipeline.proofs.Sharing.{greatest-below, at-most-one, one-at-most}
 
 -- ---- no more records than terms below 64 that are recorded
 

@@ -20,9 +20,10 @@ use Rattle.sim.specs.declared.run.Run.{Run}
 use Rattle.sim.specs.declared.run.Ended.{Ended as Stopped}
 use Rattle.text.specs.declared.listing.Summary.{Summary}
 use Rattle.sim.specs.Entries.{summaryOf, logsWith, numbersOf}
-use Rattle.sim.specs.Round.{Record, Shared}
+use Rattle.pipeline.specs.Round.{Record, Shared}
 use Rattle.sim.specs.Run.{Given, Running, Ended, begin, runRound, complete, endAfter, roundsFrom, run}
-use Rattle.sim.specs.View.{Accepted, Finishes, AllKept, givenAs, statesOf, recordsOf, recordAt, sharedOf}
+use Rattle.pipeline.specs.View.{AllKept, statesOf, recordsOf, recordAt, sharedOf}
+use Rattle.sim.specs.View.{Accepted, Finishes, givenAs}
 use Rattle.sim.specs.Going.{Tables, zeros, Going, Underway, Ends, NewRun, settingsOf, summaryFrom}
 use Rattle.sim.proofs.Ends.{from-limit, from-next, from-end, shortest-new}
 

@@ -18,7 +18,7 @@ use Rattle.sim.specs.declared.config.Config.{Config}
 use Rattle.sim.specs.declared.config.Answer.{Answer}
 use Rattle.sim.specs.declared.config.Answer.the-variants.{Ran, Refused}
 use Rattle.sim.specs.Questions.{rowsRefusal, topologyRefusal}
-use Rattle.sim.specs.Round.{Record, stateOf}
+use Rattle.pipeline.specs.Round.{Record, stateOf}
 use Rattle.sim.specs.Run.{Given, Running, Ended, run}
 
 -- the answer, and what the three buffers hold afterwards

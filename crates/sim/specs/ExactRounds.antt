@@ -15,7 +15,7 @@ use Rattle.phy.specs.Slot.{at}
 use Rattle.text.specs.declared.listing.Summary.{Summary}
 use Rattle.sim.specs.declared.config.Config.{Config}
 use Rattle.sim.specs.declared.config.Answer.the-variants.{Ran}
-use Rattle.sim.specs.Round.{stateOf, initiatorOf}
+use Rattle.pipeline.specs.Round.{stateOf, initiatorOf}
 use Rattle.sim.specs.Run.{Given, Past, Ended, lengthOf, run}
 use Rattle.sim.specs.Entries.{Outcome, terms, givenOf, runOfRows, runOfTopology}
 

@@ -12,9 +12,9 @@ use Rattle.text.specs.declared.listing.Summary.{Summary}
 use Rattle.sim.specs.declared.config.Config.{Config}
 use Rattle.sim.specs.declared.run.Run.{Run}
 use Rattle.sim.specs.declared.run.Ended.{Ended}
-use Rattle.sim.specs.Round.{shortestLog}
+use Rattle.pipeline.specs.Round.{shortestLog}
 use Rattle.sim.specs.Run.{Given, Running, begin, roundsFrom, run}
-use Rattle.sim.specs.View.{Sharing, sharedOf}
+use Rattle.pipeline.specs.View.{Sharing, sharedOf}
 
 -- the flood's settings, for snapshots that show this progress
 abbrev pub settingsOf : ℕ → Config → ℕ → Settings

@@ -1,6 +1,5 @@
 -- What is right for the crate `sim`.
 pub mod Questions
-pub mod Round
 pub mod Run
 pub mod Entries
 pub mod View

@@ -13,7 +13,7 @@ use Rattle.phy.specs.Node.{new}
 use Rattle.phy.specs.Slot.{Setup, Standing, Shots}
 use Rattle.phy.specs.Round.{Flooded, lengthLimit, round}
 use Rattle.protocol.specs.Paxos.{State, empty, logged}
-use Rattle.sim.specs.Round.{Shared, Prepared, stateOf, initiatorOf, prepareRound, processRound, shortestLog}
+use Rattle.pipeline.specs.Round.{Shared, Prepared, stateOf, initiatorOf, prepareRound, processRound, shortestLog}
 
 -- What a run is given: the rows of the graph, its number of nodes and its diameter, the configuration, and the outcome of each attempt by
 -- the attempt's number.

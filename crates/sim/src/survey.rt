@@ -2,9 +2,9 @@
 ghost use mathlib.Core.Path.{_≡_};
 ghost use Prim.Native.Nat.{_≤_, min};
 ghost use Rattle.network.specs.Graph.{has, all};
-ghost use Rattle.sim.specs.Round.{shortestLog};
+ghost use Rattle.pipeline.specs.Round.{shortestLog};
 ghost use Rattle.sim.specs.Run.{complete};
-ghost use Rattle.sim.specs.View.{AllKept, statesOf};
+ghost use Rattle.pipeline.specs.View.{AllKept, statesOf};
 
 // The length of the shortest log, and whether all logs hold every proposal.
 pub struct Progress {

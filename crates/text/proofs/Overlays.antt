@@ -5,8 +5,8 @@ use mathlib.Core.List.{List, [], _∷_, _++_}
 use native.Mathlib.Nat.{mul-suc, zero-add, le-antisymm}
 use native.Mathlib.Numerals.{add-one}
 use native.Mathlib.Omega.{arith}
-use lib.ListN.{length, take, drop, set, length-append}
-use lib.Seq.{sets, sets-eq, length-sets, take-append-seam}
+use lib.ListN.{length, set, length-append}
+use lib.Seq.{sets, length-sets}
 use Rattle.text.specs.Listing.{each, spelled}
 use Rattle.text.specs.Overlay.{Laid, Written}
 use Rattle.text.proofs.Spelling.{spelled-low, spelled-high, spelled-short}
@@ -51,12 +51,6 @@ module _ {m : ℕ} {l l′ : List ℕ} {at at′ : ℕ} {s : List ℕ} (a : Laid
 -- a text from the buffer's start on
 pub whole : {m : ℕ} {l l′ : List ℕ} {at′ : ℕ} {s : List ℕ} → Laid m l 0 s l′ at′ → Written m s l l′ at′
 whole a = record { contents = a .contents; counted = a .place ∙ zero-add _; short = a .short }
-
--- where it fits, the buffer's first bytes are the text
-pub written-first : {m n : ℕ} {l l′ s : List ℕ} → Written m s l l′ n → m ≤ length l → take n l′ ≡ s
-written-first {l = l} {s = s} w h =
-    let fits : 0 + length s ≤ length l = omega (arith, w .short) in
-    rw (w .contents, w .counted, sets-eq s l 0 fits) (take-append-seam s (drop (0 + length s) l))
 
 -- a number's text: one digit, and one digit more
 module _ (n : ℕ) where

@@ -42,6 +42,24 @@ const RUNS: [(&str, &str); 6] = [
     ),
 ];
 
+/// How cost grows: with the nodes, with the rounds, with the loss.
+const GROWTH: [(&str, &str); 14] = [
+    ("line 2, lossless, P 16", "2 2 0 2 - 0000000000000000 7 16 100 1000000"),
+    ("line 4, lossless, P 16", "2 4 0 2 - 0000000000000000 7 16 100 1000000"),
+    ("line 8, lossless, P 16", "2 8 0 2 - 0000000000000000 7 16 100 1000000"),
+    ("line 16, lossless, P 16", "2 16 0 2 - 0000000000000000 7 16 100 1000000"),
+    ("line 32, lossless, P 16", "2 32 0 2 - 0000000000000000 7 16 100 1000000"),
+    ("grid 4 by 4, lossless, P 8", "4 4 4 2 - 0000000000000000 7 8 100 1000000"),
+    ("grid 4 by 4, lossless, P 16", "4 4 4 2 - 0000000000000000 7 16 100 1000000"),
+    ("grid 4 by 4, lossless, P 32", "4 4 4 2 - 0000000000000000 7 32 100 1000000"),
+    ("grid 4 by 4, lossless, P 64", "4 4 4 2 - 0000000000000000 7 64 100 1000000"),
+    ("grid 4 by 4, loss 0.1, P 16", "4 4 4 2 - 3fb999999999999a 7 16 100 1000000"),
+    ("grid 4 by 4, loss 0.3, P 16", "4 4 4 2 - 3fd3333333333333 7 16 100 1000000"),
+    ("grid 4 by 4, loss 0.5, P 16", "4 4 4 2 - 3fe0000000000000 7 16 100 1000000"),
+    ("grid 4 by 4, loss 0.7, P 16", "4 4 4 2 - 3fe6666666666666 7 16 100 1000000"),
+    ("grid 4 by 4, loss 0.9, P 16", "4 4 4 2 - 3feccccccccccccd 7 16 100 1000000"),
+];
+
 /// How often, and how long each time at least.
 struct Effort {
     turns: usize,
@@ -89,10 +107,19 @@ fn print_fixed() {
         "Processor time of one run in milliseconds; ratio: how many times faster the library is;"
     );
     println!("draws: as many of the seed's draws as the run made attempts, by the library.");
+    print_table(&RUNS);
+    print_table(&GROWTH);
+    println!();
+    for (name, line) in RUNS.iter().chain(&GROWTH) {
+        println!("{name}: {line}");
+    }
+}
+
+fn print_table(runs: &[(&str, &str)]) {
     println!();
     println!("| run | rounds | slots | attempts | ctsim | library | ratio | draws |");
     println!("|---|---|---|---|---|---|---|---|");
-    for (name, line) in RUNS {
+    for (name, line) in runs {
         let input = Input::parse(line.as_bytes()).expect("readable");
         let (run, times) = measure(&input, &FIXED);
         print!(
@@ -104,10 +131,6 @@ fn print_fixed() {
             "| {ctsim:.3} | {library:.3} | {:.2} | {draws:.3} |",
             times.ratio()
         );
-    }
-    println!();
-    for (name, line) in RUNS {
-        println!("{name}: {line}");
     }
 }
 

@@ -11,7 +11,7 @@ use Rattle.random.specs.Table.{tabulate}
 use Rattle.random.proofs.Tables.{length-tabulate}
 use Rattle.protocol.specs.View.{loggedSet, termAt}
 use Rattle.protocol.proofs.Frame.{log-room, term-logged, logged-lt}
-use Rattle.sim.proofs.Copies.{log-terms}
+use Rattle.protocol.proofs.TurnLaws.{log-terms}
 use Rattle.sim.proofs.buffers.write_log.Statement.{statement}
 use Rattle.sim.proofs.buffers.write_log.Tie as tie
 

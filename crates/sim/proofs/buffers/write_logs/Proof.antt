@@ -7,7 +7,7 @@ use lib.ListN.{length}
 use lib.Seq.{sets}
 use Rattle.protocol.specs.View.{logOf}
 use Rattle.sim.specs.Entries.{terms, logsWith}
-use Rattle.sim.specs.View.{statesOf}
+use Rattle.pipeline.specs.View.{statesOf}
 use Rattle.sim.proofs.Copies.{logs-more, logs-length}
 use Rattle.sim.proofs.buffers.write_logs.Statement.{statement}
 use Rattle.sim.proofs.buffers.write_logs.Tie as tie

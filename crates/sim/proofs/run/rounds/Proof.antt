@@ -5,7 +5,7 @@ use native.Mathlib.Omega.{arith}
 use denote.Ref.{now}
 use lib.ListN.{length}
 use Rattle.protocol.specs.Paxos.{State}
-use Rattle.sim.specs.Round.{shortestLog}
+use Rattle.pipeline.specs.Round.{shortestLog}
 use Rattle.sim.specs.Run.{runRound}
 use Rattle.sim.specs.View.{givenAs}
 use Rattle.sim.specs.Going.{Underway}

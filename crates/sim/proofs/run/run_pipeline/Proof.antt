@@ -1,7 +1,7 @@
 use native.Mathlib.Omega.{arith}
 use borrow.Author.Needs.{needs}
 use denote.Ref.{now}
-use Rattle.sim.proofs.Filing.{records-few}
+use Rattle.pipeline.proofs.Filing.{records-few}
 use Rattle.sim.proofs.Underway.{kept-all, finishes}
 use Rattle.sim.proofs.run.run_pipeline.Statement.{statement}
 use Rattle.sim.proofs.run.run_pipeline.Tie as tie

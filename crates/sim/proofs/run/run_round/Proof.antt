@@ -3,15 +3,15 @@ use mathlib.Core.Path.{_≡_, sym, ap, ap₂, _∙_}
 use native.Mathlib.Nat.{mod-lt}
 use native.Mathlib.Omega.{arith}
 use borrow.Author.Needs.{needs}
-use lib.ListN.{length-append}
 use denote.Ref.{now}
 use Rattle.random.specs.Reception.{heard}
 use Rattle.phy.specs.Round.{Flooded, lengthLimit, round}
-use Rattle.sim.specs.Round.{Prepared, prepareRound, processRound}
+use Rattle.pipeline.specs.Round.{Prepared, prepareRound, processRound}
 use Rattle.sim.specs.Run.{setupOf, runRound}
-use Rattle.sim.specs.View.{givenAs, sharedOf}
-use Rattle.sim.proofs.Sharing.{sharing-more}
-use Rattle.sim.proofs.Rounds.{limit-few, sound-as, covered-few, stands-as}
+use Rattle.pipeline.specs.View.{sharedOf}
+use Rattle.sim.specs.View.{givenAs}
+use Rattle.pipeline.proofs.Sharing.{sharing-more}
+use Rattle.sim.proofs.Rounds.{limit-few, sound-as, covered-few, stands-as, rounds-more}
 use Rattle.sim.proofs.run.run_round.Statement.{statement}
 use Rattle.sim.proofs.run.run_round.Tie as tie
 
@@ -97,23 +97,25 @@ returns c = λ s shown g.
     let limit-is = c .before .before .before .before .before .before .before .before .before .before .before .before .before .before .before .before .before .before .before .before .before .before .before .before .before .before .before .before .before .before .before .length-limit .ensures in
     let few = limit-few (a .config .«round_slots») (a .diameter) (a .config .«flood_repeats») (ok .slots) (ok .short) (ok .repeats-high) in
     let spec : Prepared = prepareRound n (a .config .«num_proposals») i (s .standing .slot) (s .shared) in
-    let same : prepareRound n (a .config .«num_proposals») i (a .x .flood .slot .0) (sharedOf n (a .x .shared) (now (a .states)) (now (a .table))) ≡ spec
-    = ap₂ (prepareRound n (a .config .«num_proposals») i) (g .standing .slot) (g .shared) in
-    let packet : prepared .result .packet ≡ spec .packet = prepared .ensures .packet ∙ ap (λ (p : Prepared). p .packet) same in
+    let mine : Prepared = prepareRound n (a .config .«num_proposals») i (a .x .flood .slot .0) (sharedOf n (a .x .shared) (now (a .states)) (now (a .table))) in
+    let same : mine ≡ spec = ap₂ (prepareRound n (a .config .«num_proposals») i) (g .standing .slot) (g .shared) in
+    let packet : prepared .result .packet ≡ spec .packet = _∙_ {b = mine .packet} (prepared .ensures .packet) (ap (λ (p : Prepared). p .packet) same) in
     let m = flooded .ensures .stands (a .config .seed) (g .ready) (s .standing) (g .standing) in
-    let flood : round (record { rows = now (a .graph); nodes = a .n; repeats = a .config .«flood_repeats»; interval = a .config .«snapshot_interval»; progress = a .x .progress; heard = heard (a .config .«loss_rate») (a .config .seed) }) (c .before .before .before .before .before .before .before .before .before .before .before .before .before .before .before .before .before .before .before .before .before .before .before .before .before .before .before .before .before .before .before .length-limit .result) i (prepared .result .packet) (s .standing) ≡ round (setupOf given (s .shared)) (lengthLimit (a .config .«round_slots») (a .diameter) (a .config .«flood_repeats»)) i (spec .packet) (s .standing)
+    let here : Flooded = round (record { rows = now (a .graph); nodes = a .n; repeats = a .config .«flood_repeats»; interval = a .config .«snapshot_interval»; progress = a .x .progress; heard = heard (a .config .«loss_rate») (a .config .seed) }) (c .before .before .before .before .before .before .before .before .before .before .before .before .before .before .before .before .before .before .before .before .before .before .before .before .before .before .before .before .before .before .before .length-limit .result) i (prepared .result .packet) (s .standing) in
+    let there : Flooded = round (setupOf given (s .shared)) (lengthLimit (a .config .«round_slots») (a .diameter) (a .config .«flood_repeats»)) i (spec .packet) (s .standing) in
+    let flood : here ≡ there
     = λ j. round (record { rows = now (a .graph); nodes = n; repeats = a .config .«flood_repeats»; interval = a .config .«snapshot_interval»; progress = shown j; heard = heard (a .config .«loss_rate») (a .config .seed) }) (limit-is j) i (packet j) (s .standing) in
     let standing = stands-as flood (m .0) in
-    let part = m .1 ∙ ap (λ (f : Flooded). f .part) flood in
-    let covered = m .2 ∙ ap (λ (f : Flooded). f .covered) flood in
-    let before = prepared .ensures .shared ∙ ap (λ (p : Prepared). p .shared) same in
+    let part = _∙_ {b = here .part} (m .1) (ap (λ (f : Flooded). f .part) flood) in
+    let covered = _∙_ {b = here .covered} (m .2) (ap (λ (f : Flooded). f .covered) flood) in
+    let before = _∙_ {b = mine .shared} (prepared .ensures .shared) (ap (λ (p : Prepared). p .shared) same) in
     let shared = processed .ensures .shared ∙ (λ j. processRound n (packet j) (standing .slot j) (part j) (before j)) in
     let most = covered-few (setupOf given (s .shared)) (lengthLimit (a .config .«round_slots») (a .diameter) (a .config .«flood_repeats»)) i (spec .packet) (s .standing) in
     record {
       standing = standing;
       shared = shared;
       covered = ap₂ _+_ (g .covered) covered;
-      rounds = length-append (s .rounds) _ ∙ ap (λ (u : ℕ). u + 1) (g .rounds);
+      rounds = rounds-more given (a .k) s ∙ ap (λ (u : ℕ). u + 1) (g .rounds);
       sound = sound-as n (a .config) (a .x .progress) 0 (flooded .ensures .sound);
       sharing = sharing-more (omega (arith, ok .few)) (processed .ensures .sharing (a .k + 1) (32 * a .k) (prepared .ensures .sharing (a .k) (32 * a .k) (g .sharing)));
       ready = flooded .ensures .ready (a .config .seed) (g .ready);

@@ -9,10 +9,10 @@ use Rattle.network.specs.Graph.{all}
 use Rattle.network.proofs.Sets.{all-cong}
 use Rattle.protocol.specs.Paxos.{State, logged}
 use Rattle.protocol.proofs.Frame.{log-room}
-use Rattle.sim.specs.Round.{stateOf, shortestFrom}
+use Rattle.pipeline.specs.Round.{stateOf, shortestFrom}
 use Rattle.sim.specs.Run.{complete}
-use Rattle.sim.specs.View.{statesOf}
-use Rattle.sim.proofs.Sharing.{state-at, log-length}
+use Rattle.pipeline.specs.View.{statesOf}
+use Rattle.pipeline.proofs.Sharing.{state-at, log-length}
 use Rattle.sim.proofs.survey.survey.Statement.{statement}
 use Rattle.sim.proofs.survey.survey.Tie as tie
 

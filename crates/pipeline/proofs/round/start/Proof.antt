@@ -5,10 +5,10 @@ use native.Mathlib.Omega.{arith}
 use borrow.Author.Needs.{needs}
 use denote.Ref.{now}
 use lib.ListN.{set}
-use Rattle.sim.specs.View.{Starts}
-use Rattle.sim.proofs.Sharing.{starts-one, starts-none}
-use Rattle.sim.proofs.round.start.Statement.{statement}
-use Rattle.sim.proofs.round.start.Tie as tie
+use Rattle.pipeline.specs.View.{Starts}
+use Rattle.pipeline.proofs.Sharing.{starts-one, starts-none}
+use Rattle.pipeline.proofs.round.start.Statement.{statement}
+use Rattle.pipeline.proofs.round.start.Tie as tie
 
 mul-table : tie.Need-mul-table
 mul-table c = search needs

@@ -7,7 +7,7 @@ ghost use mathlib.Core.List.{[], _∷_};
 ghost use Prim.Native.Nat.{_<_};
 ghost use Rattle.network.specs.Graph.{has};
 ghost use Rattle.phy.specs.Slot.{among};
-ghost use Rattle.sim.specs.View.{Filed, Files};
+ghost use Rattle.pipeline.specs.View.{Filed, Files};
 
 // How many records there are, and the set of the terms that are recorded.
 pub struct Recorded {

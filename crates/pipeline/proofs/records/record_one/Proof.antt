@@ -1,9 +1,9 @@
 use borrow.Author.Tests.{eq-eqb, ne-eqb}
 use borrow.Author.Needs.{needs}
 use Rattle.network.specs.Graph.{has}
-use Rattle.sim.proofs.Filing.{files-known}
-use Rattle.sim.proofs.records.record_one.Statement.{statement}
-use Rattle.sim.proofs.records.record_one.Tie as tie
+use Rattle.pipeline.proofs.Filing.{files-known}
+use Rattle.pipeline.proofs.records.record_one.Statement.{statement}
+use Rattle.pipeline.proofs.records.record_one.Tie as tie
 
 shr-if1 : tie.Need-shr-if1
 shr-if1 c = search needs

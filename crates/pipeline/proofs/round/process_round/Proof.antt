@@ -7,12 +7,12 @@ use borrow.Author.Tests.{eq-eqb, ne-eqb}
 use denote.Ref.{now}
 use Rattle.network.specs.Graph.{has}
 use Rattle.protocol.specs.View.{Carried}
-use Rattle.sim.specs.declared.pipeline.Shared.{Shared}
-use Rattle.sim.specs.Round.{turns, takeTurn, processRound}
-use Rattle.sim.specs.View.{Sharing, sharedOf}
-use Rattle.sim.proofs.Sharing.{cleared-sharing, sharing-more, sharing-as, turns-more, turns-same}
-use Rattle.sim.proofs.round.process_round.Statement.{statement}
-use Rattle.sim.proofs.round.process_round.Tie as tie
+use Rattle.pipeline.specs.declared.shared.Shared.{Shared}
+use Rattle.pipeline.specs.Round.{turns, takeTurn, processRound}
+use Rattle.pipeline.specs.View.{Sharing, sharedOf}
+use Rattle.pipeline.proofs.Sharing.{cleared-sharing, sharing-more, sharing-as, turns-more, turns-same}
+use Rattle.pipeline.proofs.round.process_round.Statement.{statement}
+use Rattle.pipeline.proofs.round.process_round.Tie as tie
 
 abbrev Inv-loop : tie.InvT-loop
 Inv-loop states₀ table₀ n packet slot part y₀ j₀ states table y j =

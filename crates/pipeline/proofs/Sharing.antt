@@ -25,10 +25,10 @@ use Rattle.protocol.specs.View.{view, loggedSet, entryAt, logOf, Kept, Wrote, l
 use Rattle.protocol.proofs.Frame.{Same, wrote-same, wrote-same-before, frame-view, frame-kept}
 use Rattle.protocol.proofs.Commit.{newly-bit}
 use Rattle.protocol.proofs.Kept.{last-mono, kept-mono}
-use Rattle.sim.specs.declared.records.Recorded.{Recorded}
-use Rattle.sim.specs.Round.{Shared, recorded, stateOf, latest, onePiggyback, takeTurn, turns}
-use Rattle.sim.specs.View.{Filed, Files, Started, Starts, AllKept, Sharing, recordsOf, statesOf, withoutPiggyback}
-use Rattle.sim.specs.declared.pipeline.Shared.{Shared as Carried}
+use Rattle.pipeline.specs.declared.records.Recorded.{Recorded}
+use Rattle.pipeline.specs.Round.{Shared, recorded, stateOf, latest, onePiggyback, takeTurn, turns}
+use Rattle.pipeline.specs.View.{Filed, Files, Started, Starts, AllKept, Sharing, recordsOf, statesOf, withoutPiggyback}
+use Rattle.pipeline.specs.declared.shared.Shared.{Shared as Carried}
 
 pub counted-is : (b : Bool) (c : ℕ) → counted b c ≡ c + cond b 1 0
 counted-is true c = refl

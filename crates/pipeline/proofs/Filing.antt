@@ -18,9 +18,9 @@ use Rattle.random.proofs.Tables.{tabulate-cong, tabulate-snoc}
 use Rattle.phy.specs.Slot.{among}
 use Rattle.phy.proofs.Attempts.{among-more}
 use Rattle.phy.proofs.Masks.{has-and, or-shifted-bit, has-insert}
-use Rattle.sim.specs.declared.records.Recorded.{Recorded}
-use Rattle.sim.specs.Round.{Record, recorded, recordAll}
-use Rattle.sim.specs.View.{Filed, Files, recordAt, recordsOf}
+use Rattle.pipeline.specs.declared.records.Recorded.{Recorded}
+use Rattle.pipeline.specs.Round.{Record, recorded, recordAll}
+use Rattle.pipeline.specs.View.{Filed, Files, recordAt, recordsOf}
 
 -- ---- counts
 

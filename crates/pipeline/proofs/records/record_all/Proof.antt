@@ -6,10 +6,10 @@ use native.Mathlib.Omega.{arith}
 use borrow.Author.Tests.{eq-eqb, ne-eqb}
 use Rattle.network.specs.Graph.{has}
 use Rattle.phy.specs.Slot.{among}
-use Rattle.sim.specs.View.{Files}
-use Rattle.sim.proofs.Filing.{files-none, files-at, files-as, files-more, files-all-known}
-use Rattle.sim.proofs.records.record_all.Statement.{statement}
-use Rattle.sim.proofs.records.record_all.Tie as tie
+use Rattle.pipeline.specs.View.{Files}
+use Rattle.pipeline.proofs.Filing.{files-none, files-at, files-as, files-more, files-all-known}
+use Rattle.pipeline.proofs.records.record_all.Statement.{statement}
+use Rattle.pipeline.proofs.records.record_all.Tie as tie
 
 abbrev Inv-loop : tie.InvT-loop
 Inv-loop table₀ end newly r₀ t₀ table r t = (t ≤ 64) × Files end (among t (has newly)) r₀ table₀ r table

@@ -1,7 +1,7 @@
 // The nodes' part of a round, after the source's sim/paxos_pipeline.rs.
-use super::pipeline::Shared;
 use super::records::Recorded;
 use super::records::record_all;
+use super::shared::Shared;
 use network::units::NodeId;
 use network::units::Slot;
 use phy::packet::Packet;
@@ -12,8 +12,8 @@ ghost use mathlib.Core.Path.{_≡_};
 ghost use mathlib.Core.Bool.{cond};
 ghost use Prim.Native.Nat.{ℕ, _+_, _≤_, _<_, _^_};
 ghost use Rattle.protocol.specs.View.{Carried};
-ghost use Rattle.sim.specs.Round.{latest as latestOf, onePiggyback};
-ghost use Rattle.sim.specs.View.{Started, Starts, Sharing, Prepares, TakesTurn, Processes, withoutPiggyback};
+ghost use Rattle.pipeline.specs.Round.{latest as latestOf, onePiggyback};
+ghost use Rattle.pipeline.specs.View.{Started, Starts, Sharing, Prepares, TakesTurn, Processes, withoutPiggyback};
 
 // The nodes' part after `prepare_round`, and the packet to be flooded.
 pub struct Prepared {

@@ -3,9 +3,9 @@ use native.Mathlib.Omega.{arith}
 use borrow.Author.Needs.{needs}
 use denote.Ref.{now}
 use lib.ListN.{length-set}
-use Rattle.sim.proofs.Filing.{room-left, files-one}
-use Rattle.sim.proofs.records.add.Statement.{statement}
-use Rattle.sim.proofs.records.add.Tie as tie
+use Rattle.pipeline.proofs.Filing.{room-left, files-one}
+use Rattle.pipeline.proofs.records.add.Statement.{statement}
+use Rattle.pipeline.proofs.records.add.Tie as tie
 
 mul-at : tie.Need-mul-at
 mul-at c = let a = c .args in omega (arith, room-left (a .x) (now (a .table)) (a .id) (c .pre .0) (c .pre .1) (c .pre .2), c .pre .0 .room)

@@ -1,9 +1,9 @@
 use mathlib.Core.Path.{sym, ap}
 use borrow.Author.Needs.{needs}
 use Rattle.phy.specs.declared.packet.Piggyback.{Piggyback}
-use Rattle.sim.specs.Round.{latest}
-use Rattle.sim.proofs.round.latest.Statement.{statement}
-use Rattle.sim.proofs.round.latest.Tie as tie
+use Rattle.pipeline.specs.Round.{latest}
+use Rattle.pipeline.proofs.round.latest.Statement.{statement}
+use Rattle.pipeline.proofs.round.latest.Tie as tie
 
 enum-told : tie.Need-enum-told
 enum-told c = search needs

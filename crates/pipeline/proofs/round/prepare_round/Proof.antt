@@ -13,12 +13,12 @@ use Rattle.phy.specs.declared.packet.Packet.{Packet}
 use Rattle.protocol.proofs.Chains.{back-mono}
 use Rattle.protocol.specs.Turns.{Initiated, counted, initiatorTurn}
 use Rattle.protocol.specs.View.{view, Carried}
-use Rattle.sim.specs.Round.{stateOf, prepareRound}
-use Rattle.sim.specs.View.{sharedOf, statesOf, recordedOf}
-use Rattle.sim.proofs.Filing.{files-records}
-use Rattle.sim.proofs.Sharing.{started-as, kept-as, counted-is, proposing, at-most-one, state-at, states-set, start-at, starts-filed, starts-records, starts-same, started-same, initiator-newly, kept-set}
-use Rattle.sim.proofs.round.prepare_round.Statement.{statement}
-use Rattle.sim.proofs.round.prepare_round.Tie as tie
+use Rattle.pipeline.specs.Round.{stateOf, prepareRound}
+use Rattle.pipeline.specs.View.{sharedOf, statesOf, recordedOf}
+use Rattle.pipeline.proofs.Filing.{files-records}
+use Rattle.pipeline.proofs.Sharing.{started-as, kept-as, counted-is, proposing, at-most-one, state-at, states-set, start-at, starts-filed, starts-records, starts-same, started-same, initiator-newly, kept-set}
+use Rattle.pipeline.proofs.round.prepare_round.Statement.{statement}
+use Rattle.pipeline.proofs.round.prepare_round.Tie as tie
 
 mul-at : tie.Need-mul-at
 mul-at c = search needs

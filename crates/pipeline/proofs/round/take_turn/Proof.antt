@@ -11,12 +11,12 @@ use Rattle.protocol.specs.Turns.{Taken, participantTurn}
 use Rattle.protocol.specs.View.{view, backBelow}
 use Rattle.protocol.proofs.Kept.{kept-mono, last-mono}
 use Rattle.protocol.proofs.Chains.{carried-mono}
-use Rattle.sim.specs.Round.{stateOf, takeTurn, latest, onePiggyback}
-use Rattle.sim.specs.View.{sharedOf, statesOf}
-use Rattle.sim.proofs.Filing.{files-records}
-use Rattle.sim.proofs.Sharing.{state-at, states-set, start-at, starts-same, started-same, participant-newly, kept-set, latest-below, one-at-most}
-use Rattle.sim.proofs.round.take_turn.Statement.{statement}
-use Rattle.sim.proofs.round.take_turn.Tie as tie
+use Rattle.pipeline.specs.Round.{stateOf, takeTurn, latest, onePiggyback}
+use Rattle.pipeline.specs.View.{sharedOf, statesOf}
+use Rattle.pipeline.proofs.Filing.{files-records}
+use Rattle.pipeline.proofs.Sharing.{state-at, states-set, start-at, starts-same, started-same, participant-newly, kept-set, latest-below, one-at-most}
+use Rattle.pipeline.proofs.round.take_turn.Statement.{statement}
+use Rattle.pipeline.proofs.round.take_turn.Tie as tie
 
 mul-at : tie.Need-mul-at
 mul-at c = search needs
