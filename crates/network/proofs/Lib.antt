@@ -1,5 +1,6 @@
 -- The laws that several proofs and the crates above cite.
 pub mod Sets
+pub mod Lowest
 pub mod Rows
 pub mod Within
 pub mod Spread

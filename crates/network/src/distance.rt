@@ -1,8 +1,9 @@
 // Distances by sets of nodes, a layer a step.
 ghost use mathlib.Core.Path.{_≡_};
+ghost use mathlib.Core.Bool.{_&&_};
 ghost use Prim.Native.Nat.{_≤_, _<_, _^_};
-ghost use Rattle.network.specs.Graph.{maxNodes, Checked};
-ghost use Rattle.network.specs.Distance.{spread, eccentricity, diameter, measured};
+ghost use Rattle.network.specs.Graph.{maxNodes, has, setOf, any, linked, Checked};
+ghost use Rattle.network.specs.Distance.{eccentricity, diameter, measured};
 use crate::graph;
 use crate::graph::MAX_NODES;
 use crate::questions::lies_in;
@@ -14,34 +15,37 @@ pub enum Measured {
     Refused(u64),
 }
 
-// The set with every node that a link joins to one of it.
-fn spread(rows: &[u64; MAX_NODES], n: usize, set: u64) -> u64
-    requires { ⌜ (n ≤ maxNodes) × (Checked (now rows) n × (set < 2 ^ n)) ⌝ }
-    ensures { λ r. ⌜ r ≡ spread (now (rows .entry)) n set ⌝ }
+// The nodes that a link joins to one of `edge`: the union of the rows of its nodes.
+fn neighbours(rows: &[u64; MAX_NODES], n: usize, edge: u64) -> u64
+    requires { ⌜ (n ≤ maxNodes) × (Checked (now rows) n × (edge < 2 ^ n)) ⌝ }
+    ensures { λ r. ⌜ r ≡ setOf n (λ j. any n (λ i. has edge i && linked (now (rows .entry)) i j)) ⌝ }
 {
-    let mut next = set;
-    for i in 0..n {
-        if graph::has(set, NodeId(i)) {
-            next |= rows[i];
-        }
+    let mut found = 0;
+    let mut rest = edge;
+    while rest != 0 {
+        let t = u64::trailing_zeros(rest) as usize;
+        found |= rows[t];
+        rest -= 1u64 << t;
     }
-    next
+    found
 }
 
 // The greatest finite distance from a: the number of steps in which the set of nodes reached still grows, which is
-// below n.
+// below n. A step looks only at the nodes reached last: the rows of the others are in the set already.
 pub fn eccentricity(rows: &[u64; MAX_NODES], n: usize, a: NodeId) -> usize
     requires { ⌜ (n ≤ maxNodes) × (Checked (now rows) n × (a .0 < n)) ⌝ }
     ensures { λ r. ⌜ r ≡ eccentricity (now (rows .entry)) n (a .0) ⌝ }
 {
     let start = a.0;
     let mut reached: u64 = 1 << start;
+    let mut edge = reached;
     let mut k = 0;
     while k + 1 < n {
-        let next = spread(rows, n, reached);
+        let next = reached | neighbours(rows, n, edge);
         if next == reached {
             return k;
         }
+        edge = next - reached;
         reached = next;
         k += 1;
     }

@@ -1,14 +1,16 @@
--- The set of all terms below n. Assumes nothing.
-use Prim.Native.Nat.{ℕ, zero, suc, _+_, _-_, _%_, _^_, _≤_, _<_}
-use mathlib.Core.Path.{_≡_, refl, sym, ap, _∙_}
-use mathlib.Core.Bool.{Bool, true, cond}
+-- The set of all terms below n, and sets that have them all. Assumes nothing.
+use Prim.Native.Nat.{ℕ, zero, suc, _+_, _-_, _%_, _^_, _<_}
+use mathlib.Core.Path.{_≡_, refl, sym, ap, ap₂, _∙_}
+use mathlib.Core.Bool.{Bool, true, cond, _&&_}
 use native.Mathlib.Nat.{pow-suc, mod-lt}
 use native.Mathlib.Omega.{arith}
+use lib.Bits.{bitAnd}
 use lib.Dec.{eqb}
 use lib.Pow.{pow-pos}
 use borrow.Author.Tests.{eqb-true, eq-eqb}
 use Rattle.network.specs.Graph.{has, setOf, all}
-use Rattle.network.proofs.Sets.{same, all-elim, all-intro, has-low, has-setOf, set-ext}
+use Rattle.network.proofs.Sets.{and-both, same, all-elim, all-intro, has-low, has-setOf, set-ext}
+use Rattle.phy.proofs.Masks.{has-and}
 
 pub full-set : (n : ℕ) (f : ℕ → Bool) → ((j : ℕ) → j < n → f j ≡ true) → setOf n f + 1 ≡ 2 ^ n
 unfolding setOf
@@ -28,3 +30,14 @@ has-all n s =
     same
     (λ e. all-intro n (has s) (λ j h. sym (has-low s n j h) ∙ ap (λ (x : ℕ). has x j) (eqb-true (s % 2 ^ n) (2 ^ n - 1) e) ∙ full-bit n j h))
     (λ e. eq-eqb (s % 2 ^ n) (2 ^ n - 1) (set-ext n (mod-lt s (pow-pos n)) (omega (arith, pow-pos n)) (λ j h. has-low s n j h ∙ all-elim n (has s) e j h ∙ sym (full-bit n j h))))
+
+-- two sets both have all of them when their intersection does
+pub all-and : (n a b : ℕ) → all n (has (bitAnd a b)) ≡ all n (has a) && all n (has b)
+all-and n a b =
+    same
+    (λ e.
+    let at : (j : ℕ) → j < n → (has a j ≡ true) × (has b j ≡ true) = λ j h. and-both (has a j) (has b j) (sym (has-and a b j) ∙ all-elim n (has (bitAnd a b)) e j h) in
+    ap₂ _&&_ (all-intro n (has a) (λ j h. at j h .0)) (all-intro n (has b) (λ j h. at j h .1)))
+    (λ e.
+    let r = and-both (all n (has a)) (all n (has b)) e in
+    all-intro n (has (bitAnd a b)) (λ j h. has-and a b j ∙ ap₂ _&&_ (all-elim n (has a) (r .0) j h) (all-elim n (has b) (r .1) j h)))

@@ -29,17 +29,24 @@ fn logs_all(logged: u64, proposals: usize) -> bool
     logged % (1u64 << proposals) == (1u64 << proposals) - 1
 }
 
-// Looks at the logs of the first n nodes.
+// Looks at the logs of the first n nodes. A log with the terms of the first is no shorter, so only the others are counted;
+// all logs hold every proposal when their intersection does.
 pub fn survey(states: &[u64], n: usize, proposals: usize) -> Progress
     requires { ⌜ AllKept 64 n (now states) × (1 ≤ n) × (n ≤ 32) × (proposals ≤ 64) ⌝ }
     ensures { λ r. ⌜ (r .shortest ≡ shortestLog (statesOf n (now (states .entry))) n) × (r .complete ≡ complete n proposals (statesOf n (now (states .entry)))) ⌝ }
 {
-    let mut shortest = u64::count_ones(states[193]) as u64;
-    let mut complete = true;
+    let first = states[193];
+    let mut shortest = u64::count_ones(first) as u64;
+    let mut common = first;
     for j in 0..n {
         let logged = states[195 * j + 193];
-        shortest = smaller(shortest, u64::count_ones(logged) as u64);
-        complete = complete & logs_all(logged, proposals);
+        if logged != first {
+            shortest = smaller(shortest, u64::count_ones(logged) as u64);
+        }
+        common = common & logged;
     }
-    Progress { shortest, complete }
+    Progress {
+        shortest,
+        complete: logs_all(common, proposals),
+    }
 }

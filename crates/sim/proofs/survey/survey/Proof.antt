@@ -1,32 +1,53 @@
-use Prim.Native.Nat.{ℕ, _*_, _-_, _≤_, _<_, min}
-use mathlib.Core.Path.{_≡_, refl, sym, ap, ap₂, _∙_}
-use mathlib.Core.Bool.{Bool, _&&_}
+use Prim.Native.Nat.{ℕ, zero, suc, _*_, _-_, _≤_, _<_, min}
+use mathlib.Core.Path.{_≡_, sym, ap, ap₂, _∙_}
+use mathlib.Core.Bool.{Bool, true, _&&_, and-comm, and-assoc}
+use mathlib.Core.Logic.{⊎-elim}
+use mathlib.Core.List.{List}
+use native.Mathlib.Nat.{le-refl, le-trans, le-of-eq, min-le-left, min-eq-left}
 use native.Mathlib.Numerals.{add-one}
 use native.Mathlib.Omega.{arith}
 use denote.Ref.{now}
+use lib.Count.{ones}
 use lib.ListN.{length}
-use Rattle.network.specs.Graph.{all}
-use Rattle.network.proofs.Sets.{all-cong}
+use Rattle.network.specs.Graph.{has, all}
+use Rattle.network.proofs.Sets.{and-both, same, all-cong, all-elim}
 use Rattle.protocol.specs.Paxos.{State, logged}
+use Rattle.protocol.specs.View.{loggedSet}
 use Rattle.protocol.proofs.Frame.{log-room}
 use Rattle.pipeline.specs.Round.{stateOf, shortestFrom}
 use Rattle.sim.specs.Run.{complete}
-use Rattle.pipeline.specs.View.{statesOf}
+use Rattle.pipeline.specs.View.{AllKept, statesOf}
 use Rattle.pipeline.proofs.Sharing.{state-at, log-length}
+use Rattle.sim.proofs.Full.{all-and}
 use Rattle.sim.proofs.survey.survey.Statement.{statement}
 use Rattle.sim.proofs.survey.survey.Tie as tie
 
+-- what is counted from k is at most k
+shortest-le : (k : ℕ) (states : List State) (m : ℕ) → shortestFrom k states m ≤ k
+unfolding shortestFrom
+shortest-le k states zero = le-refl k
+shortest-le k states (suc m) = le-trans (min-le-left _ _) (shortest-le k states m)
+
+-- node i's log holds each proposal
+abbrev full : ℕ → List ℕ → ℕ → ℕ → Bool
+full n states proposals i = all proposals (λ (t : ℕ). logged t (stateOf (statesOf n states) i .log))
+
+full-is : (n : ℕ) (states : List ℕ) (proposals i : ℕ) → AllKept 64 n states → i < n → all proposals (has (loggedSet states (195 * i))) ≡ full n states proposals i
+full-is n states proposals i k h =
+    all-cong proposals (λ t _. sym (k .each i h .logged-is t))
+    ∙ ap (λ (s : State). all proposals (λ (t : ℕ). logged t (s .log))) (sym (state-at n states i h))
+
 abbrev Inv-loop : tie.InvT-loop
-Inv-loop states n proposals shortest₀ complete₀ j₀ shortest complete j =
+Inv-loop states n proposals first shortest₀ common₀ j₀ shortest common j =
     (j ≤ n)
     × (shortest ≡ shortestFrom (length (stateOf (statesOf n states) 0 .log)) (statesOf n states) j)
-    × (complete ≡ all j (λ (i : ℕ). all proposals (λ (t : ℕ). logged t (stateOf (statesOf n states) i .log))))
+    × (all proposals (has common) ≡ full n states proposals 0 && all j (full n states proposals))
 
 abbrev μ-loop : tie.MeasureT-loop
-μ-loop states n proposals shortest₀ complete₀ j₀ shortest complete j = n - j
+μ-loop states n proposals first shortest₀ common₀ j₀ shortest common j = n - j
 
-shared-slice-read-shortest : tie.Need-shared-slice-read-shortest Inv-loop μ-loop
-shared-slice-read-shortest c = omega (arith, c .before .before .pre .0 .room)
+shared-slice-read-first : tie.Need-shared-slice-read-first Inv-loop μ-loop
+shared-slice-read-first c = omega (arith, c .before .before .pre .0 .room)
 
 cast-shortest : tie.Need-cast-shortest Inv-loop μ-loop
 cast-shortest c = omega (arith, log-room (c .before .before .pre .0 .each 0 (c .before .before .pre .1)))
@@ -34,8 +55,12 @@ cast-shortest c = omega (arith, log-room (c .before .before .pre .0 .each 0 (c .
 loop-holds : tie.Need-loop-holds Inv-loop μ-loop
 unfolding shortestFrom all
 loop-holds c =
-    let a = c .before .before .args in
-    (omega arith, sym (log-length (a .n) (now (a .states)) 0 (c .before .before .pre .1)), refl)
+    let p = c .before .before .pre in
+    let a = c .before .before .args in (
+      omega arith,
+      sym (log-length (a .n) (now (a .states)) 0 (p .1)),
+      full-is (a .n) (now (a .states)) (a .proposals) 0 (p .0) (p .1) ∙ and-comm true (full (a .n) (now (a .states)) (a .proposals) 0),
+    )
 
 mul-logged : tie.Need-mul-logged Inv-loop μ-loop
 mul-logged c = omega arith
@@ -50,13 +75,11 @@ shared-slice-read-logged : tie.Need-shared-slice-read-logged Inv-loop μ-loop
 shared-slice-read-logged c = omega (arith, c .before .before .before .before .before .pre .0 .room, c .before .before .before .before .before .pre .2)
 
 cast-smaller : tie.Need-cast-smaller Inv-loop μ-loop
-cast-smaller c = omega (arith, log-room (c .before .before .before .before .before .pre .0 .each (c .before .before .loop .j) (omega arith)))
+cast-smaller c =
+    omega (arith, log-room (c .before .before .before .before .before .before .pre .0 .each (c .before .before .before .loop .j) (omega arith)))
 
 smaller-requires : tie.Need-smaller-requires Inv-loop μ-loop
 smaller-requires c κs = tt
-
-logs-all-requires : tie.Need-logs-all-requires Inv-loop μ-loop
-logs-all-requires c κs = c .before .before .before .before .before .before .pre .3
 
 add-j : tie.Need-add-j Inv-loop μ-loop
 add-j c = omega arith
@@ -67,32 +90,45 @@ loop-less c = omega arith
 loop-again : tie.Need-loop-again Inv-loop μ-loop
 unfolding shortestFrom all
 loop-again c =
-    let l = c .before .before .before .before .loop in
-    let start = c .before .before .before .before .before .before .before in
+    let l = c .before .before .before .loop in
+    let start = c .before .before .before .before .before .before in
     let a = start .args in
     let b = now (a .states) in
     let states = statesOf (a .n) b in
-    let f : ℕ → Bool = λ (i : ℕ). all (a .proposals) (λ (t : ℕ). logged t (stateOf states i .log)) in
     let here : l .j < a .n = omega arith in
-    let kept = start .pre .0 .each (l .j) here in (
+    let size = log-length (a .n) b in
+    let f = full (a .n) b (a .proposals) in (
       omega arith,
-      c .before .smaller .ensures ∙ ap₂ min (l .inv .1) (sym (log-length (a .n) b (l .j) here)) ∙ ap (shortestFrom (length (stateOf states 0 .log)) states) (sym (add-one (l .j))),
-      ap₂ _&&_ (l .inv .2)
-          (c .logs-all .ensures
-          ∙ all-cong (a .proposals) (λ t h. sym (kept .logged-is t))
-          ∙ ap (λ (s : State). all (a .proposals) (λ (t : ℕ). logged t (s .log))) (sym (state-at (a .n) b (l .j) here)))
-          ∙ ap (λ (k : ℕ). all k f) (sym (add-one (l .j))),
+      ⊎-elim (λ w. w .2 ∙ w .1 .ensures ∙ ap₂ min (l .inv .1) (sym (size (l .j) here)))
+          (λ w.
+          w .1
+          ∙ l .inv .1
+          ∙ sym (min-eq-left (le-trans (shortest-le (length (stateOf states 0 .log)) states (l .j)) (le-of-eq (size 0 (start .pre .1) ∙ ap ones (sym (w .0 .left)) ∙ sym (size (l .j) here))))))
+          (c .if1 .came)
+          ∙ ap (shortestFrom (length (stateOf states 0 .log)) states) (sym (add-one (l .j))),
+      all-and (a .proposals) (l .common) (loggedSet b (195 * l .j))
+          ∙ ap₂ _&&_ (l .inv .2) (full-is (a .n) b (a .proposals) (l .j) (start .pre .0) here)
+          ∙ and-assoc (f 0) (all (l .j) f) (f (l .j))
+          ∙ ap (λ (k : ℕ). f 0 && all k f) (sym (add-one (l .j))),
     )
+
+logs-all-requires : tie.Need-logs-all-requires Inv-loop μ-loop
+logs-all-requires c κs = c .before .before .before .before .pre .3
 
 returns : tie.Need-returns Inv-loop μ-loop
 unfolding complete
 returns c =
-    let l = c .before .loop in
-    let a = c .before .before .before .before .args in
+    let l = c .before .before .loop in
+    let start = c .before .before .before .before .before in
+    let a = start .args in
     let states = statesOf (a .n) (now (a .states)) in
+    let f = full (a .n) (now (a .states)) (a .proposals) in
     let done : l .j ≡ a .n = omega arith in (
       l .inv .1 ∙ ap (shortestFrom (length (stateOf states 0 .log)) states) done,
-      l .inv .2 ∙ ap (λ (k : ℕ). all k (λ (i : ℕ). all (a .proposals) (λ (t : ℕ). logged t (stateOf states i .log)))) done,
+      c .logs-all .ensures
+          ∙ l .inv .2
+          ∙ ap (λ (k : ℕ). f 0 && all k f) done
+          ∙ same (λ e. and-both (f 0) (all (a .n) f) e .1) (λ e. ap₂ _&&_ (all-elim (a .n) f e 0 (start .pre .1)) e),
     )
 
 pub survey-spec : {M : Type 1} → statement M
@@ -101,7 +137,7 @@ survey-spec =
     (tie.spec
     Inv-loop
     μ-loop
-    shared-slice-read-shortest
+    shared-slice-read-first
     cast-shortest
     loop-holds
     mul-logged
@@ -110,8 +146,8 @@ survey-spec =
     shared-slice-read-logged
     cast-smaller
     smaller-requires
-    logs-all-requires
     add-j
     loop-less
     loop-again
+    logs-all-requires
     returns)
