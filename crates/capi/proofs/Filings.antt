@@ -1,7 +1,7 @@
 -- The definitions of the entries, where a slice for results is too short and where it is not.
 -- Assumes nothing.
 use Prim.Native.Nat.{ℕ, _≤_, _<_}
-use mathlib.Core.Path.{_≡_, sym, ap, ap₂, _∙_}
+use mathlib.Core.Path.{_≡_, sym, ap, _∙_}
 use mathlib.Core.List.{List}
 use lib.Ieee.{Float}
 use lib.ListN.{length}
@@ -13,7 +13,7 @@ use Rattle.network.specs.declared.distance.Measured.{Measured}
 use Rattle.sim.specs.declared.config.Config.{Config}
 use Rattle.sim.specs.declared.config.Answer.{Answer}
 use Rattle.sim.specs.declared.metrics.Ratio.{Ratio}
-use Rattle.sim.specs.Entries.{Outcome, runOfRows, runOfTopology}
+use Rattle.sim.specs.Entries.{runOfRows, runOfTopology}
 use Rattle.sim.specs.Answers.{outcome}
 use Rattle.sim.specs.Ratio.{ratioOf}
 use Rattle.capi.specs.Capi.{builtResult, filedRows, measuredResult, filedDiameter, ratioResult, filedRatio, resultOf, withSummary, filed, filedOutcome, filedTopology, filedRun}

@@ -1,6 +1,5 @@
 // Reads lines, readable ones and hostile ones, and prints what was read; then a listing and a
 // refusal, whole and into buffers that are too short.
-ghost use Prim.Native.Nat.{_≤_};
 use libc::STDOUT_FILENO;
 use text::line::Line;
 use text::line::Read;

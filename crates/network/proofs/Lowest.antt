@@ -156,11 +156,12 @@ highest w s h p =
 
 -- rest has the nodes of s from m on
 pub record Walked (s rest m : ℕ) : Type 0 where
+  pub part : rest ≤ s
   pub inside : (j : ℕ) → m ≤ j → has s j ≡ has rest j
   pub after : (j : ℕ) → j < m → has rest j ≡ false
 
 pub walked-none : (s : ℕ) → Walked s s 0
-walked-none s = record { inside = λ j l. refl; after = λ j l. absurd (omega (arith, l)) }
+walked-none s = record { part = omega arith; inside = λ j l. refl; after = λ j l. absurd (omega (arith, l)) }
 
 has-zero : (j : ℕ) → has 0 j ≡ false
 has-zero j = has-out {n = 0} (omega arith) j (omega arith)
@@ -192,6 +193,7 @@ walked-next w {s} {rest} {m} h p x =
       fits = fits;
       fewer = omega (arith, fits, pow-pos t);
       onward = record {
+        part = omega (arith, x .part);
         inside = λ j a. x .inside j (omega (arith, from, a)) ∙ sym (has-less rest t j (l .is) ∙ ap (λ (b : Bool). cond b false (has rest j)) (ne-eqb j t (λ e. absurd (omega (arith, e, a)))));
         after = λ j b. has-less rest t j (l .is) ∙ gone j b (two (eqb j t));
       };

@@ -1,9 +1,10 @@
 -- Attempts in order. Assumes nothing.
-use Prim.Native.Nat.{ℕ, zero, suc, _+_, _*_, _/_, _^_, _≤_, _<_}
-use mathlib.Core.Path.{_≡_, refl, sym, ap, ap₂, subst, _∙_}
+use Prim.Native.Nat.{ℕ, zero, suc, _+_, _^_, _≤_, _<_}
+use mathlib.Core.Path.{_≡_, refl, sym, ap, ap₂, _∙_}
 use mathlib.Core.Bool.{Bool, true, false, cond, _&&_}
 use mathlib.Core.List.{List, [], _∷_, _++_, append-nil}
-use native.Mathlib.Nat.{le-dest, add-zero, add-suc}
+use mathlib.Core.Logic.{⊎-elim}
+use native.Mathlib.Nat.{eq-or-lt-of-le}
 use native.Mathlib.Numerals.{add-one}
 use native.Mathlib.Omega.{arith}
 use lib.Ieee.{Float}
@@ -12,7 +13,7 @@ use lib.Bits.{bitAnd}
 use Rattle.network.specs.Graph.{has, linked}
 use Rattle.network.proofs.Sets.{has-out}
 use Rattle.phy.proofs.Masks.{has-and}
-use Rattle.random.specs.Reception.{heard, Ready}
+use Rattle.random.specs.Reception.{heard}
 use Rattle.phy.specs.declared.slot.Tried.{Tried}
 use Rattle.phy.specs.Slot.{Tries, attempt, attemptAll, among, receivers}
 use Rattle.phy.specs.View.{triesOf, TriedOn}
@@ -57,15 +58,17 @@ unfolding among
 among-cong zero f g h = refl
 among-cong (suc n) f g h = ap₂ (λ (l : List ℕ) (b : Bool). l ++ cond b (n ∷ []) []) (among-cong n f g (λ k b. h k (omega arith))) (h n (omega arith))
 
--- where no number from m on is so
-pub among-stop : (m k : ℕ) (f : ℕ → Bool) → ((i : ℕ) → m ≤ i → f i ≡ false) → among (m + k) f ≡ among m f
+-- where no number from m to below t is so
+pub among-skip : (m t : ℕ) (f : ℕ → Bool) → m ≤ t → ((i : ℕ) → m ≤ i → i < t → f i ≡ false) → among t f ≡ among m f
 unfolding among
-among-stop m zero f h = ap (λ (x : ℕ). among x f) (add-zero m)
-among-stop m (suc k) f h =
-    ap (λ (x : ℕ). among x f) (add-suc m k)
-    ∙ ap (λ (b : Bool). among (m + k) f ++ cond b ((m + k) ∷ []) []) (h (m + k) (omega arith))
-    ∙ append-nil (among (m + k) f)
-    ∙ among-stop m k f h
+among-skip m zero f l h = let e : 0 ≡ m = omega (arith, l) in ap (λ (x : ℕ). among x f) e
+among-skip m (suc t) f l h =
+    ⊎-elim (λ e. ap (λ (x : ℕ). among x f) (sym e))
+    (λ b.
+    ap (λ (x : Bool). among t f ++ cond x (t ∷ []) []) (h t (omega (arith, b)) (omega arith))
+    ∙ append-nil (among t f)
+    ∙ among-skip m t f (omega (arith, b)) (λ i u v. h i u (omega (arith, v))))
+    (eq-or-lt-of-le l)
 
 pub receivers-more : (rows : List ℕ) (floods listens : ℕ → Bool) (n m : ℕ) (b : Bool) → floods m ≡ b
     → receivers rows floods listens n m ++ cond b (among n (λ (j : ℕ). linked rows m j && listens j)) [] ≡ receivers rows floods listens n (m + 1)
@@ -73,6 +76,38 @@ unfolding receivers
 receivers-more rows floods listens n m b e =
     ap (λ (x : Bool). receivers rows floods listens n m ++ cond x (among n (λ (j : ℕ). linked rows m j && listens j)) []) (sym e)
     ∙ ap (λ (k : ℕ). receivers rows floods listens n k) (sym (add-one m))
+
+-- where nobody from m to below t floods
+pub receivers-skip : (rows : List ℕ) (floods listens : ℕ → Bool) (n m t : ℕ) → m ≤ t → ((i : ℕ) → m ≤ i → i < t → floods i ≡ false)
+    → receivers rows floods listens n t ≡ receivers rows floods listens n m
+unfolding receivers
+receivers-skip rows floods listens n m zero l h = let e : 0 ≡ m = omega (arith, l) in ap (receivers rows floods listens n) e
+receivers-skip rows floods listens n m (suc t) l h =
+    ⊎-elim (λ e. ap (receivers rows floods listens n) (sym e))
+    (λ b.
+    ap (λ (x : Bool). receivers rows floods listens n t ++ cond x (among n (λ (j : ℕ). linked rows t j && listens j)) []) (h t (omega (arith, b)) (omega arith))
+    ∙ append-nil (receivers rows floods listens n t)
+    ∙ receivers-skip rows floods listens n m t (omega (arith, b)) (λ i u v. h i u (omega (arith, v))))
+    (eq-or-lt-of-le l)
+
+and-false : (b : Bool) → b && false ≡ false
+and-false true = refl
+and-false false = refl
+
+-- where nobody listens
+pub receivers-none : (rows : List ℕ) (floods listens : ℕ → Bool) (n m : ℕ) → ((j : ℕ) → listens j ≡ false) → receivers rows floods listens n m ≡ []
+unfolding receivers among
+receivers-none rows floods listens n zero h = refl
+receivers-none rows floods listens n (suc m) h =
+    ap₂ _++_ (receivers-none rows floods listens n m h)
+    (ap (λ (l : List ℕ). cond (floods m) l []) (among-skip 0 n _ (omega arith) (λ j u v. ap (λ (b : Bool). linked rows m j && b) (h j) ∙ and-false (linked rows m j))) ∙ either (floods m))
+  where
+    none : List ℕ
+    none = []
+
+    either : (b : Bool) → cond b none none ≡ none
+    either true = refl
+    either false = refl
 
 -- who floods and who listens counts below n alone
 pub receivers-cong : (rows : List ℕ) (f f' l l' : ℕ → Bool) (n m : ℕ) → m ≤ n → ((j : ℕ) → j < n → f j ≡ f' j) → ((j : ℕ) → j < n → l j ≡ l' j)
@@ -89,11 +124,5 @@ pub receivers-of : (rows : List ℕ) (i n w listening : ℕ) → n ≤ w → lis
 unfolding linked
 receivers-of rows i n w listening h small =
     let s = bitAnd (getD rows i 0) listening in
-    let rest = le-dest h in
-    ap (λ (k : ℕ). among k (has s)) (sym (rest .1))
-    ∙ among-stop n (rest .0) (has s) (λ k b. has-and (getD rows i 0) listening k ∙ ap (λ (x : Bool). has (getD rows i 0) k && x) (has-out small k b) ∙ and-false (has (getD rows i 0) k))
+    among-skip n w (has s) h (λ k b u. has-and (getD rows i 0) listening k ∙ ap (λ (x : Bool). has (getD rows i 0) k && x) (has-out small k b) ∙ and-false (has (getD rows i 0) k))
     ∙ among-cong n (has s) (λ (j : ℕ). has (getD rows i 0) j && has listening j) (λ k b. has-and (getD rows i 0) listening k)
-  where
-    and-false : (b : Bool) → b && false ≡ false
-    and-false true = refl
-    and-false false = refl

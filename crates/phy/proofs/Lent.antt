@@ -22,12 +22,11 @@ use denote.RattleType.{RattleType}
 use denote.Laws.{Is, shows}
 use denote.Memory.{cellAt, partAt, mem, shares, partOf}
 use denote.Ref.{RefT, MutRef}
-use denote.Lend.{LentRef, lends-ref, ref-back}
+use denote.Lend.{lends-ref, ref-back}
 use denote.Index.{place, place-is, others, takes, puts, row}
 use denote.Array.{Array}
 use denote.ArrayMemory.{array-apart, array-whole}
 use denote.Steps.{peeks}
-use denote.Struct.Steps.{spelt}
 use denote.Struct.Laws as LL
 use Rattle.phy.specs.Slot.{at}
 use Rattle.phy.specs.declared.node.Node.{Node}

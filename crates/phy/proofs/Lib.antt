@@ -1,6 +1,7 @@
 -- Lemmas that several proofs of the crate use.
 pub mod Masks
 pub mod Nodes
+pub mod Places
 pub mod Rounds
 pub mod RoundEnds
 pub mod Slots

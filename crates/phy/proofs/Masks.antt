@@ -1,16 +1,16 @@
 -- Sets of nodes in a word. Assumes nothing.
 use Prim.Native.Nat.{ℕ, zero, suc, _+_, _*_, _/_, _%_, _^_, _≤_, _<_}
-use mathlib.Core.Path.{_≡_, refl, sym, ap, ap₂, subst, _∙_}
-use mathlib.Core.Bool.{Bool, true, false, not, cond, _&&_, _||_}
+use mathlib.Core.Path.{_≡_, refl, sym, ap, subst, _∙_}
+use mathlib.Core.Bool.{Bool, true, false, cond, _&&_, _||_}
 use mathlib.Core.Logic.{_⊎_, ⊎-elim}
-use native.Mathlib.Nat.{mod-lt, not-suc-le-zero, le-of-suc-le-suc, zero-div, div-eq-of-lt, eq-or-lt-of-le, lt-div-mul-add, zero-mul, zero-add}
+use native.Mathlib.Nat.{mod-lt, not-suc-le-zero, le-of-suc-le-suc, zero-div, eq-or-lt-of-le, add-zero}
 use native.Mathlib.Omega.{arith}
 use lib.Dec.{eqb}
 use lib.Bits.{bitAnd, bitOr, and-shr, and-mod, and-lt, or-lt, or-disjoint}
 use lib.Pow.{pow-pos, pow-lt}
 use borrow.Author.Tests.{eqb-true}
-use Rattle.network.specs.Graph.{has}
-use Rattle.network.proofs.Sets.{two, has-or, has-one, has-out, set-ext, one-shl}
+use Rattle.network.specs.Graph.{has, setOf}
+use Rattle.network.proofs.Sets.{two, has-or, has-one, set-ext, setOf-cong, setOf-has, one-shl}
 use Rattle.phy.specs.Slot.{insert}
 
 -- the intersection
@@ -87,23 +87,18 @@ module _ (w : ℕ) {s j : ℕ} (small : s < 2 ^ w) (in-word : j < w) where
   pub insert-lt : insert j s < 2 ^ w
   insert-lt = subst (λ (x : ℕ). x < 2 ^ w) or-bit (or-lt w s (2 ^ j) small (pow-lt in-word))
 
--- a word that is not used up has bits left
-pub bits-left : (w s j : ℕ) → s < 2 ^ w → j ≤ w → (s / 2 ^ j ≡ 0 → ⊥) → j < w
-bits-left w s j small h more = ⊎-elim (λ e. absurd (more (ap (λ (x : ℕ). s / 2 ^ x) e ∙ div-eq-of-lt small))) (λ l. l) (eq-or-lt-of-le h)
+-- a set of nodes below n, by its nodes
+pub set-is : (n : ℕ) {s : ℕ} (f : ℕ → Bool) → s < 2 ^ n → ((j : ℕ) → j < n → has s j ≡ f j) → s ≡ setOf n f
+set-is n {s} f h e = sym (setOf-has n s h) ∙ setOf-cong n e
 
--- and one that is used up has none
-pub none-left : (s j : ℕ) → s / 2 ^ j ≡ 0 → (k : ℕ) → j ≤ k → has s k ≡ false
-none-left s j e k h = has-out {n = j} (below (lt-div-mul-add {b = 2 ^ j} (pow-pos j))) k h
-  where
-    below : s < s / 2 ^ j * 2 ^ j + 2 ^ j → s < 2 ^ j
-    below b = subst (λ (x : ℕ). s < x) (ap (λ (q : ℕ). q * 2 ^ j + 2 ^ j) e ∙ ap (λ (x : ℕ). x + 2 ^ j) (zero-mul (2 ^ j)) ∙ zero-add (2 ^ j)) b
-
--- the code's test that a node is not in a set
-pub off : (s j : ℕ) → eqb (s / 2 ^ j % 2) 0 ≡ not (has s j)
-unfolding has
-off s j = digit (s / 2 ^ j % 2) (mod-lt (s / 2 ^ j) (omega arith))
-  where
-    digit : (x : ℕ) → x < 2 → eqb x 0 ≡ not (eqb x 1)
-    digit zero h = refl
-    digit (suc zero) h = refl
-    digit (suc (suc x)) h = absurd (not-suc-le-zero (le-of-suc-le-suc (le-of-suc-le-suc h)))
+-- where no node from m to below t is so
+pub setOf-skip : (m t : ℕ) (f : ℕ → Bool) → m ≤ t → ((i : ℕ) → m ≤ i → i < t → f i ≡ false) → setOf t f ≡ setOf m f
+unfolding setOf
+setOf-skip m zero f l h = let e : 0 ≡ m = omega (arith, l) in ap (λ (x : ℕ). setOf x f) e
+setOf-skip m (suc t) f l h =
+    ⊎-elim (λ e. ap (λ (x : ℕ). setOf x f) (sym e))
+    (λ b.
+    ap (λ (x : Bool). setOf t f + cond x (2 ^ t) 0) (h t (omega (arith, b)) (omega arith))
+    ∙ add-zero (setOf t f)
+    ∙ setOf-skip m t f (omega (arith, b)) (λ i u v. h i u (omega (arith, v))))
+    (eq-or-lt-of-le l)

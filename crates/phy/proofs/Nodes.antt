@@ -1,5 +1,5 @@
 -- What a slot changes of a node, and what it leaves. Assumes nothing.
-use Prim.Native.Nat.{ℕ, zero, suc, _+_, _-_, _*_, _^_, _≤_, _<_}
+use Prim.Native.Nat.{ℕ, zero, suc, _+_, _-_, _^_, _<_}
 use mathlib.Core.Path.{_≡_, refl, sym, ap, ap₂, _∙_}
 use mathlib.Core.Bool.{Bool, true, false, cond}
 use mathlib.Core.List.{List}
@@ -7,7 +7,7 @@ use native.Mathlib.Nat.{add-comm, add-zero, one-mul}
 use native.Mathlib.Omega.{arith}
 use lib.Count.{ones, ones-cat}
 use lib.Dec.{eqb}
-use lib.ListN.{length, getD, length-set}
+use lib.ListN.{length, length-set}
 use lib.Seq.{getD-set-same, getD-set-other}
 use Rattle.network.specs.Graph.{has, setOf, count, all}
 use Rattle.network.proofs.Sets.{setOf-lt}
@@ -112,11 +112,7 @@ unfolding count
 count-cong zero f g h = refl
 count-cong (suc n) f g h = ap₂ (λ (k : ℕ) (b : Bool). k + cond b 1 0) (count-cong n f g (λ j b. h j (omega arith))) (h n (omega arith))
 
--- a set that was built up to n
-pub setOf-at : (f : ℕ → Bool) {i n : ℕ} → i ≡ n → setOf i f ≡ setOf n f
-setOf-at f e = ap (λ (m : ℕ). setOf m f) e
-
--- and tests that passed up to n
+-- tests that passed up to n
 pub all-at : (f : ℕ → Bool) {i n : ℕ} → i ≡ n → all i f ≡ true → all n f ≡ true
 all-at f e p = ap (λ (m : ℕ). all m f) (sym e) ∙ p
 

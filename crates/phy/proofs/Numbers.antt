@@ -1,24 +1,24 @@
 -- Packets as numbers in the nodes' places. Assumes nothing.
-use Prim.Native.Nat.{ℕ, zero, suc, _+_, _*_, _≤_, _<_}
-use mathlib.Core.Path.{_≡_, refl, sym, ap, ap₂, subst, _∙_}
-use mathlib.Core.Bool.{Bool, true, false, _&&_}
+use Prim.Native.Nat.{ℕ, _+_, _*_, _≤_, _<_}
+use mathlib.Core.Path.{_≡_, refl, sym, ap, _∙_}
+use mathlib.Core.Bool.{true, false}
 use mathlib.Core.List.{List}
 use mathlib.Core.Logic.{_⊎_, inl, inr, ⊎-elim}
 use native.Mathlib.Nat.{eq-or-lt-of-le}
 use native.Mathlib.Omega.{arith}
-use lib.Dec.{eqb, ltb}
+use lib.Dec.{ltb}
 use lib.ListN.{length, getD, set, length-set}
 use lib.Seq.{getD-set-same, getD-set-other}
 use borrow.Author.Tests.{eqb-true, eq-eqb, ltb-true, ltb-false}
-use Rattle.network.specs.Graph.{all}
-use Rattle.network.specs.declared.units.Term.{Term}
-use Rattle.network.proofs.Sets.{two, same, all-elim, all-intro}
+use Rattle.network.specs.Graph.{has, all}
+use Rattle.network.proofs.Lowest.{Next}
+use Rattle.network.proofs.Sets.{two, never, same, all-elim, all-intro}
 use Rattle.phy.specs.declared.packet.LastAccepted.{LastAccepted}
 use Rattle.phy.specs.declared.packet.Data.{Data}
 use Rattle.phy.specs.declared.packet.Piggyback.{Piggyback}
 use Rattle.phy.specs.declared.packet.Packet.{Packet}
 use Rattle.phy.specs.Packets.{acceptedCase, acceptedTerm, dataCase, dataTerm, backCase, backTerm, backData, numbersOf, samePacket}
-use Rattle.phy.specs.View.{Gave, sameNumbers}
+use Rattle.phy.specs.View.{Gave, GaveAll, sameNumbers}
 use Rattle.phy.proofs.Packets.{same-packet-equal, same-packet-itself}
 
 -- ---- a packet is written, one number after the other
@@ -58,6 +58,38 @@ giving-all {i} {packet} {h} {h'} {k} g all =
     sides : (j : ℕ) → (j ≡ i → ⊥) → (j < i) ⊎ (i < j)
     sides j ne =
         ⊎-elim (λ e. inl (ltb-true j i e)) (λ w. ⊎-elim (λ e. absurd (ne (sym e))) inr (eq-or-lt-of-le (ltb-false j i w))) (two (ltb j i))
+
+-- ---- the nodes of a set get a packet, those below m first
+pub record GivingAll (set : ℕ) (packet h h' : List ℕ) (m : ℕ) : Type 0 where
+  pub size : length h' ≡ length h
+  pub given : (k : ℕ) → k < m → has set k ≡ true → (i : ℕ) → i < 12 → getD h' (12 * k + i) 0 ≡ getD packet i 0
+  pub others : (k : ℕ) → (k < m → has set k ≡ false) → (i : ℕ) → i < 12 → getD h' (12 * k + i) 0 ≡ getD h (12 * k + i) 0
+
+pub giving-all-none : (set : ℕ) (packet h : List ℕ) → GivingAll set packet h h 0
+giving-all-none set packet h = record { size = refl; given = λ k b. absurd (omega (arith, b)); others = λ k e i b. refl }
+
+pub giving-all-more : {w set rest m t : ℕ} {packet h h' h'' : List ℕ} → GivingAll set packet h h' m → Next w set rest m t → Gave t packet h' h'' → GivingAll set packet h h'' (t + 1)
+giving-all-more {w} {set} {rest} {m} {t} {packet} {h} {h'} {h''} g next gave =
+    record {
+      size = gave .size ∙ g .size;
+      given = λ k b e i u.
+          ⊎-elim (λ p. ap (λ (j : ℕ). getD h'' (12 * j + i) 0) p ∙ gave .given i u)
+          (λ l. gave .others k i (λ p. omega (arith, p, l)) u ∙ g .given k (earlier k l e) e i u)
+          (eq-or-lt-of-le (omega (arith, b)));
+      others = λ k e i u.
+          gave .others k i (λ p. never (ap (has set) p ∙ next .is) (e (omega (arith, p)))) u ∙ g .others k (λ b. e (omega (arith, b, next .from))) i u;
+    }
+  where
+    earlier : (k : ℕ) → k < t → has set k ≡ true → k < m
+    earlier k l e = ⊎-elim (λ b. ltb-true k m b) (λ b. never e (next .none k (ltb-false k m b) l)) (two (ltb k m))
+
+pub giving-all-end : {set m : ℕ} {packet h h' : List ℕ} → GivingAll set packet h h' m → ((k : ℕ) → m ≤ k → has set k ≡ false) → GaveAll set packet h h'
+giving-all-end {set} {m} g none =
+    record {
+      size = g .size;
+      given = λ k e. g .given k (⊎-elim (λ b. ltb-true k m b) (λ b. never e (none k (ltb-false k m b))) (two (ltb k m))) e;
+      others = λ k e. g .others k (λ b. e);
+    }
 
 -- ---- packets are equal exactly when their numbers are
 accepted-by : (a b : LastAccepted) → acceptedCase a ≡ acceptedCase b → acceptedTerm a ≡ acceptedTerm b → a ≡ b

@@ -3,7 +3,7 @@ use Prim.Native.Nat.{ℕ, zero, suc, _^_, _≤_, _<_}
 use mathlib.Core.Path.{_≡_, refl, sym, ap, ap₂, subst, _∙_}
 use mathlib.Core.Bool.{Bool, true, false, cond, _&&_, _||_}
 use mathlib.Core.List.{List, [], _∷_, _++_}
-use mathlib.Core.Logic.{_⊎_, inl, inr, ⊎-elim}
+use mathlib.Core.Logic.{_⊎_, ⊎-elim}
 use native.Mathlib.Nat.{le-refl, eq-or-lt-of-le, le-of-suc-le-suc}
 use native.Mathlib.Omega.{arith}
 use lib.Dec.{eqb}
@@ -13,7 +13,7 @@ use Rattle.network.specs.Graph.{has, linked}
 use Rattle.network.proofs.Sets.{never, and-both, or-either, or-right}
 use Rattle.phy.specs.declared.node.Node.{Node}
 use Rattle.phy.specs.Node.{isListening, isFlooding}
-use Rattle.phy.specs.Slot.{Setup, Tries, at, among, insert, receivers, attemptBy, attempt, attemptAll, triesIn}
+use Rattle.phy.specs.Slot.{Setup, Tries, at, among, receivers, attemptBy, attempt, attemptAll, triesIn}
 use Rattle.phy.proofs.Masks.{has-zero, has-insert, insert-lt}
 use Rattle.phy.proofs.Tries.{triedIn, attempts-all}
 
@@ -89,40 +89,6 @@ module _ (rows : List ℕ) (floods listens : ℕ → Bool) (n : ℕ) where
     where
       theirs : List ℕ
       theirs = among n (λ (j : ℕ). linked rows m j && listens j)
-
--- ---- whoever is reached was reached before, or is a receiver
-reached-only : (h : ℕ → Bool) (w : ℕ) (t : Tries) (js : List ℕ) → t .reached < 2 ^ w → ((k : ℕ) → isIn k js ≡ true → k < w)
-    → (j : ℕ) → j < w → has (attemptAll h t js .reached) j ≡ true → (has (t .reached) j ≡ true) ⊎ (isIn j js ≡ true)
-unfolding attemptAll isIn attempt
-reached-only h w t [] small below j hj e = inl e
-reached-only h w t (x ∷ js) small below j hj e =
-    let within = below x (ap (λ (b : Bool). b || isIn x js) (eq-eqb x x refl)) in
-    let later : (k : ℕ) → isIn k js ≡ true → k < w = λ k q. below k (or-right (eqb k x) (isIn k js) q) in
-    own (h (t .attempts)) within e
-    (reached-only h w (attemptBy true t x) js (insert-lt w small within) later j hj)
-    (reached-only h w (attemptBy false t x) js small later j hj)
-  where
-    own : (b : Bool) → x < w → has (attemptAll h (attemptBy b t x) js .reached) j ≡ true
-        → (has (attemptAll h (attemptBy true t x) js .reached) j ≡ true → (has (insert x (t .reached)) j ≡ true) ⊎ (isIn j js ≡ true))
-        → (has (attemptAll h (attemptBy false t x) js .reached) j ≡ true → (has (t .reached) j ≡ true) ⊎ (isIn j js ≡ true))
-        → (has (t .reached) j ≡ true) ⊎ (eqb j x || isIn j js ≡ true)
-    own true within q heard unheard =
-        ⊎-elim
-        (λ p. ⊎-elim (λ u. inr (ap (λ (b : Bool). b || isIn j js) u)) inl (or-either (eqb j x) (has (t .reached) j) (sym (has-insert w small within j hj) ∙ p)))
-        (λ p. inr (or-right (eqb j x) (isIn j js) p))
-        (heard q)
-    own false within q heard unheard = ⊎-elim inl (λ p. inr (or-right (eqb j x) (isIn j js) p)) (unheard q)
-
--- only listeners hear
-pub reached-listens : (g : Setup) (nodes : List Node) (attempts successes j : ℕ) → j < g .nodes
-    → has (triesIn g nodes attempts successes .reached) j ≡ true → isListening (at nodes j) ≡ true
-unfolding triesIn
-reached-listens g nodes attempts successes j b e =
-    ⊎-elim (λ p. never p (has-zero j))
-    (λ p. in-receivers (g .rows) (λ (k : ℕ). isFlooding (at nodes k)) (λ (k : ℕ). isListening (at nodes k)) (g .nodes) (g .nodes) j p .4)
-    (reached-only (g .heard) (g .nodes) (record { attempts = attempts; successes = successes; reached = 0 })
-    (receivers (g .rows) (λ (k : ℕ). isFlooding (at nodes k)) (λ (k : ℕ). isListening (at nodes k)) (g .nodes) (g .nodes)) (pow-pos (g .nodes))
-    (λ k q. in-receivers (g .rows) (λ (k : ℕ). isFlooding (at nodes k)) (λ (k : ℕ). isListening (at nodes k)) (g .nodes) (g .nodes) k q .5) j b e)
 
 -- ---- nothing is lost: reached is who was reached before, and the receivers
 reached-all : (h : ℕ → Bool) (w : ℕ) (t : Tries) (js : List ℕ) → t .reached < 2 ^ w → ((k : ℕ) → isIn k js ≡ true → k < w)

@@ -3,17 +3,17 @@ use Prim.Native.Nat.{ℕ, zero, suc, _+_, _-_, _*_, _%_, _^_, _≤_, _<_}
 use mathlib.Core.Path.{_≡_, refl, sym, ap, ap₂, subst, subst⁻¹, _∙_}
 use mathlib.Core.Bool.{Bool, true, false, not, cond, _&&_, _||_}
 use mathlib.Core.List.{List}
-use mathlib.Core.Logic.{⊎-elim}
-use native.Mathlib.Nat.{pow-suc, lt-of-lt-of-le}
+use mathlib.Core.Logic.{_⊎_, inl, inr, ⊎-elim}
+use native.Mathlib.Nat.{pow-suc, lt-of-lt-of-le, zero-add}
 use native.Mathlib.Omega.{arith}
 use lib.Bits.{bitOr}
 use lib.Dec.{eqb}
 use lib.Pow.{pow-lt, pow-mono}
 use lib.ListN.{length, getD, set}
 use lib.Seq.{getD-set-same, getD-set-other}
-use borrow.Author.Tests.{eqb-true, eqb-false, not-true, not-false}
+use borrow.Author.Tests.{eqb-true, eqb-false, eq-eqb, ne-eqb, lt-ltb, not-true, not-false}
 use Rattle.network.specs.Graph.{has, setOf}
-use Rattle.network.proofs.Sets.{two, has-or, has-setOf, setOf-cong, setOf-lt, setOf-one, one-shl}
+use Rattle.network.proofs.Sets.{two, has-or, has-one, has-setOf, setOf-cong, setOf-lt, setOf-one, one-shl}
 use Rattle.random.proofs.Tables.{getD-tabulate}
 use Rattle.phy.specs.declared.ci.Delivered.{Delivered}
 use Rattle.phy.specs.declared.node.Node.{Node}
@@ -22,12 +22,12 @@ use Rattle.phy.specs.declared.node.NodeState.the-variants.{Listen, Flood
 use Rattle.phy.specs.declared.node.Payload.{Payload}
 use Rattle.phy.specs.declared.packet.Packet.{Packet}
 use Rattle.phy.specs.declared.slot.Flood.{Flood as Floods}
-use Rattle.phy.specs.Node.{new, begunBy, deliveredTo, holding, listens, floods, sleeps, isListening, isFlooding, isSleeping, total}
+use Rattle.phy.specs.Node.{new, begunBy, deliveredTo, holding, listens, floods, sleeps, isListening, isFlooding, isSleeping}
 use Rattle.phy.specs.Packets.{numbersOf, holds}
 use Rattle.phy.specs.Slot.{Standing, at, insert, sumOf}
 use Rattle.phy.specs.Round.{begun, delivered, withNodes, participants, coverage}
-use Rattle.phy.specs.View.{Gave, Holding, Stands, begunFlood, Delivers, sameNumbers}
-use Rattle.phy.proofs.Masks.{has-insert, insert-lt}
+use Rattle.phy.specs.View.{Gave, Holding, Stands, Queued, placeAfter, begunFlood, Delivers, sameNumbers}
+use Rattle.phy.proofs.Masks.{has-zero, has-insert, insert-lt}
 use Rattle.phy.proofs.Nodes.{delivered-state, count-cong, total-begun, total-delivered}
 use Rattle.phy.proofs.Numbers.{same-numbers}
 use Rattle.phy.proofs.Packets.{same-packet-itself}
@@ -53,8 +53,8 @@ own-fits n first h small =
     (subst⁻¹ (λ (a : ℕ). 2 ^ first ≤ a - 1) (one-shl 64 n small) (omega (arith, pow-lt h)))
 
 -- ---- a round begins
-module _ (n repeats first : ℕ) (packet : Packet) (x : Floods) (l h h' b : List ℕ) (s : Standing) (few : first < n) (most : n ≤ 64) (room : first < length l)
-    (gave : Gave first (numbersOf packet) h h') (st : Stands n x l h b s) where
+module _ (n repeats first : ℕ) (packet : Packet) (x : Floods) (h h' b : List ℕ) (s : Standing) (few : first < n) (most : n ≤ 64) (some : 1 ≤ repeats)
+    (gave : Gave first (numbersOf packet) h h') (st : Stands n x h b s) where
   abbrev nodes : List Node
   nodes = s .nodes
 
@@ -80,12 +80,42 @@ module _ (n repeats first : ℕ) (packet : Packet) (x : Floods) (l h h' b : List
       → sumOf f opened n ≡ sumOf f nodes n
   same-count f t e = sum-cong f nodes opened n (λ j p. ap f (each j p) ∙ field f (λ (c : Bool). f (at nodes j)) (at nodes j) (t (at nodes j)) (e (at nodes j)) (eqb j first))
 
-  left-then : (j : ℕ) → j < n → isFlooding (at opened j) ≡ true → getD (set l first repeats) j 0 ≡ at opened j .«flood_remaining»
-  left-then j p f =
-      let is : eqb j first ≡ true = sym (flooding-then j p) ∙ f in
-      ap (λ (k : ℕ). getD (set l first repeats) k 0) (eqb-true j first is)
-      ∙ getD-set-same l first repeats 0 room
-      ∙ sym (ap (λ (v : Node). v .«flood_remaining») (each j p ∙ ap (λ (c : Bool). begunBy c packet repeats (at nodes j)) is))
+  left-then : (j : ℕ) → j < n → isFlooding (at opened j) ≡ true → at opened j .«flood_remaining» ≡ repeats
+  left-then j p f = ap (λ (v : Node). v .«flood_remaining») (each j p ∙ ap (λ (c : Bool). begunBy c packet repeats (at nodes j)) (sym (flooding-then j p) ∙ f))
+
+  begun-queued : (e : List ℕ) → repeats ≤ length e → ((i : ℕ) → i < repeats → getD e i 0 ≡ 0) → Queued n repeats (set e (repeats - 1) (2 ^ first)) 0 opened
+  begun-queued e room none =
+      record {
+        place = some;
+        left = λ j p f. let r = left-then j p f in (omega (arith, r), omega (arith, r));
+        stand = λ i j l p. stands i j l p (two (eqb i (repeats - 1))) (two (isFlooding (at opened j)));
+      }
+    where
+      here : (i : ℕ) → i < repeats → placeAfter repeats 0 i ≡ i
+      here i l = ap (λ (c : Bool). cond c (0 + i) (0 + i - repeats)) (lt-ltb (0 + i) repeats (omega (arith, l))) ∙ zero-add i
+
+      empty : (i j : ℕ) → i < repeats → (i ≡ repeats - 1 → ⊥) → has (getD (set e (repeats - 1) (2 ^ first)) i 0) j ≡ false
+      empty i j l ne =
+          ap (λ (v : ℕ). has v j)
+          (getD-set-other e (repeats - 1) i (2 ^ first) 0 ne ∙ none i l)
+          ∙ has-zero j
+
+      stands : (i j : ℕ) → i < repeats → j < n → (eqb i (repeats - 1) ≡ true) ⊎ (eqb i (repeats - 1) ≡ false) → (isFlooding (at opened j) ≡ true) ⊎ (isFlooding (at opened j) ≡ false)
+          → has (getD (set e (repeats - 1) (2 ^ first)) (placeAfter repeats 0 i) 0) j ≡ isFlooding (at opened j) && eqb (at opened j .«flood_remaining») (i + 1)
+      stands i j l p (inl u) w =
+          ap (λ (k : ℕ). has (getD (set e (repeats - 1) (2 ^ first)) k 0) j) (here i l ∙ eqb-true i (repeats - 1) u)
+          ∙ ap (λ (v : ℕ). has v j) (getD-set-same e (repeats - 1) (2 ^ first) 0 (omega (arith, some, room)))
+          ∙ has-one n first j few p
+          ∙ sym (flooding-then j p)
+          ∙ ⊎-elim (λ f. f ∙ sym (ap₂ _&&_ f (eq-eqb (at opened j .«flood_remaining») (i + 1) (omega (arith, left-then j p f, eqb-true i (repeats - 1) u, some))))) (λ f. f ∙ sym (ap (λ (c : Bool). c && eqb (at opened j .«flood_remaining») (i + 1)) f)) w
+      stands i j l p (inr u) (inl f) =
+          ap (λ (k : ℕ). has (getD (set e (repeats - 1) (2 ^ first)) k 0) j) (here i l)
+          ∙ empty i j l (eqb-false i (repeats - 1) u)
+          ∙ sym (ap₂ _&&_ f (ne-eqb (at opened j .«flood_remaining») (i + 1) (λ z. absurd (eqb-false i (repeats - 1) u (omega (arith, z, left-then j p f))))))
+      stands i j l p (inr u) (inr f) =
+          ap (λ (k : ℕ). has (getD (set e (repeats - 1) (2 ^ first)) k 0) j) (here i l)
+          ∙ empty i j l (eqb-false i (repeats - 1) u)
+          ∙ sym (ap (λ (c : Bool). c && eqb (at opened j .«flood_remaining») (i + 1)) f)
 
   held-then : (j : ℕ) → j < n → Holding h' (insert first (x .holding)) j (at opened j .payload)
   held-then j p =
@@ -111,12 +141,11 @@ module _ (n repeats first : ℕ) (packet : Packet) (x : Floods) (l h h' b : List
           subst (λ (c : Bool). Holding h' (insert first (x .holding)) j (begunBy c packet repeats (at nodes j) .payload)) (sym e)
           (kept (at nodes j .payload) e (st .held j p))
 
-  begun-stands : Stands n (begunFlood n first x) (set l first repeats) h' b (withNodes opened s)
+  begun-stands : Stands n (begunFlood n first x) h' b (withNodes opened s)
   begun-stands =
       record {
         listening = sym (all-but n first few) ∙ setOf-cong n (λ j p. sym (listening-then j p));
         flooding = sym (setOf-one n first few) ∙ setOf-cong n (λ j p. sym (flooding-then j p));
-        left = left-then;
         held = held-then;
         holders = insert-lt 64 (st .holders) (omega arith);
         listens = st .listens ∙ sym (same-count (λ (v : Node). v .«slots_listen») (λ v. refl) (λ v. refl));
@@ -130,13 +159,17 @@ module _ (n repeats first : ℕ) (packet : Packet) (x : Floods) (l h h' b : List
       }
 
 -- the same of what the code's begin gave
-pub opens : (n repeats first : ℕ) (packet : Packet) {key : List ℕ} {x y : Floods} {l l' h h' b : List ℕ} {s : Standing} → first < n → n ≤ 64 → first < length l
-    → key ≡ numbersOf packet → y ≡ begunFlood n first x → l' ≡ set l first repeats → Gave first key h h' → Stands n x l h b s
-    → Stands n y l' h' b (withNodes (begun n repeats first packet (s .nodes)) s)
-opens n repeats first packet {key} {x} {y} {l} {l'} {h} {h'} {b} {s} few most room k e w gave st =
-    subst⁻¹ (λ (z : Floods). Stands n z l' h' b (withNodes (begun n repeats first packet (s .nodes)) s)) e
-    (subst⁻¹ (λ (m : List ℕ). Stands n (begunFlood n first x) m h' b (withNodes (begun n repeats first packet (s .nodes)) s)) w
-    (begun-stands n repeats first packet x l h h' b s few most room (subst (λ (m : List ℕ). Gave first m h h') k gave) st))
+pub opens : (n repeats first : ℕ) (packet : Packet) {key : List ℕ} {x y : Floods} (e : List ℕ) {e' h h' b : List ℕ} {s : Standing} → first < n → n ≤ 64 → 1 ≤ repeats
+    → repeats ≤ length e → ((i : ℕ) → i < repeats → getD e i 0 ≡ 0)
+    → key ≡ numbersOf packet → y ≡ begunFlood n first x → e' ≡ set e (repeats - 1) (2 ^ first) → Gave first key h h' → Stands n x h b s
+    → Stands n y h' b (withNodes (begun n repeats first packet (s .nodes)) s) × Queued n repeats e' 0 (begun n repeats first packet (s .nodes))
+opens n repeats first packet {key} {x} {y} e {e'} {h} {h'} {b} {s} few most some room none k f w gave st =
+    let gave' = subst (λ (m : List ℕ). Gave first m h h') k gave in (
+      subst⁻¹ (λ (z : Floods). Stands n z h' b (withNodes (begun n repeats first packet (s .nodes)) s)) f
+          (begun-stands n repeats first packet x h h' b s few most some gave' st),
+      subst⁻¹ (λ (m : List ℕ). Queued n repeats m 0 (begun n repeats first packet (s .nodes))) w
+          (begun-queued n repeats first packet x h h' b s few most some gave' st e room none),
+    )
 
 -- ---- a round ends
 -- another set of nodes holds a packet
@@ -157,8 +190,8 @@ heldFlood set x =
       source = x .source;
     }
 
-module _ (n first : ℕ) (packet : Packet) (x : Floods) (r : Delivered) (l h h' b : List ℕ) (s : Standing) (most : n ≤ 64)
-    (st : Stands n x l h b s) (d : Delivers n first (numbersOf packet) (bitOr (x .listening) (x .flooding)) (x .holding) h r h') where
+module _ (n first : ℕ) (packet : Packet) (x : Floods) (r : Delivered) (h h' b : List ℕ) (s : Standing) (most : n ≤ 64)
+    (st : Stands n x h b s) (d : Delivers n first (numbersOf packet) (bitOr (x .listening) (x .flooding)) (x .holding) h r h') where
   abbrev awake : ℕ
   awake = bitOr (x .listening) (x .flooding)
 
@@ -225,13 +258,12 @@ module _ (n first : ℕ) (packet : Packet) (x : Floods) (r : Delivered) (l h h' 
       go false e = kept (at (s .nodes) j .payload) (not-false (has awake j) (asleep j p ∙ e)) (st .held j p)
 
   delivered-stands : (y : Floods) → y ≡ heldFlood (r .holding) x
-      → Stands n y l h' b (withNodes given s)
+      → Stands n y h' b (withNodes given s)
   delivered-stands y e =
-      subst⁻¹ (λ (z : Floods). Stands n z l h' b (withNodes given s)) e
+      subst⁻¹ (λ (z : Floods). Stands n z h' b (withNodes given s)) e
       (record {
         listening = st .listening ∙ setOf-cong n (λ j p. ap listens (sym (same-state j p)));
         flooding = st .flooding ∙ setOf-cong n (λ j p. ap floods (sym (same-state j p)));
-        left = λ j p f. st .left j p (ap floods (sym (same-state j p)) ∙ f) ∙ sym (ap (λ (v : Node). v .«flood_remaining») (got j p) ∙ field-of (λ (v : Node). v .«flood_remaining») (at (s .nodes) j) refl);
         held = held-after;
         holders = subst⁻¹ (λ (k : ℕ). k < 2 ^ 64) (d .holding) (lt-of-lt-of-le (setOf-lt n _) (pow-mono most));
         listens = st .listens ∙ sym (same-sum (λ (v : Node). v .«slots_listen») (λ v. refl));
@@ -253,12 +285,12 @@ module _ (n first : ℕ) (packet : Packet) (x : Floods) (r : Delivered) (l h h' 
   delivered-covered = d .covered ∙ count-cong n _ _ covered-by
 
 -- the same of what the code's end gave
-pub closes : (n first : ℕ) (packet : Packet) {key : List ℕ} {x y : Floods} {r : Delivered} {l h h' b : List ℕ} {s : Standing} → n ≤ 64 → key ≡ numbersOf packet
+pub closes : (n first : ℕ) (packet : Packet) {key : List ℕ} {x y : Floods} {r : Delivered} {h h' b : List ℕ} {s : Standing} → n ≤ 64 → key ≡ numbersOf packet
     → y ≡ heldFlood (r .holding) x
-    → Delivers n first key (bitOr (x .listening) (x .flooding)) (x .holding) h r h' → Stands n x l h b s
-    → Stands n y l h' b (withNodes (delivered n packet (s .nodes)) s)
+    → Delivers n first key (bitOr (x .listening) (x .flooding)) (x .holding) h r h' → Stands n x h b s
+    → Stands n y h' b (withNodes (delivered n packet (s .nodes)) s)
     × (r .part ≡ participants n first (delivered n packet (s .nodes)))
     × (r .covered ≡ coverage n packet (delivered n packet (s .nodes)))
-closes n first packet {key} {x} {y} {r} {l} {h} {h'} {b} {s} most k e d st =
+closes n first packet {key} {x} {y} {r} {h} {h'} {b} {s} most k e d st =
     let d' = subst (λ (m : List ℕ). Delivers n first m (bitOr (x .listening) (x .flooding)) (x .holding) h r h') k d in
-    (delivered-stands n first packet x r l h h' b s most st d' y e, delivered-part n first packet x r l h h' b s most st d', delivered-covered n first packet x r l h h' b s most st d')
+    (delivered-stands n first packet x r h h' b s most st d' y e, delivered-part n first packet x r h h' b s most st d', delivered-covered n first packet x r h h' b s most st d')

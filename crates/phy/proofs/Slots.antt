@@ -1,16 +1,16 @@
 -- What the sets of listening and flooding nodes tell of a slot. Assumes nothing.
 use Prim.Native.Nat.{ℕ, _+_, _-_, _^_, _≤_, _<_}
-use mathlib.Core.Path.{_≡_, refl, sym, ap, subst, _∙_}
-use mathlib.Core.Bool.{Bool, true, false}
+use mathlib.Core.Path.{_≡_, sym, ap, subst, _∙_}
+use mathlib.Core.Bool.{Bool}
 use mathlib.Core.List.{List, [], _∷_}
 use native.Mathlib.Omega.{arith}
 use lib.Count.{ones}
-use Rattle.network.specs.Graph.{has, setOf, count}
+use Rattle.network.specs.Graph.{has, setOf}
 use Rattle.network.proofs.Sets.{has-setOf, setOf-lt}
 use Rattle.phy.specs.declared.node.Node.{Node}
 use Rattle.phy.specs.declared.node.NodeState.{NodeState}
-use Rattle.phy.specs.Node.{listens, floods, sleeps, isListening, isFlooding, isSleeping}
-use Rattle.phy.specs.Slot.{at, howMany, ticked, snapshot, receivers, triesIn, Setup, Tries, attemptAll}
+use Rattle.phy.specs.Node.{listens, floods, isListening, isFlooding, isSleeping}
+use Rattle.phy.specs.Slot.{at, howMany, ticked, snapshot, receivers, triesIn, Setup, attemptAll}
 use Rattle.phy.specs.View.{shotOf, shownOf}
 use Rattle.phy.proofs.Attempts.{receivers-cong}
 use Rattle.phy.proofs.Nodes.{state-ticked, count-cong, ones-setOf, three-states}
@@ -37,6 +37,9 @@ module _ (n : ℕ) (nodes : List Node) (listening flooding : ℕ)
 
   pub listening-lt : listening < 2 ^ n
   listening-lt = subst (λ (s : ℕ). s < 2 ^ n) (sym who-listens) (setOf-lt n _)
+
+  pub flooding-lt : flooding < 2 ^ n
+  flooding-lt = subst (λ (s : ℕ). s < 2 ^ n) (sym who-floods) (setOf-lt n _)
 
   -- the snapshot's numbers
   pub shot-is : (progress : ℕ) → shotOf (shownOf n progress (ones listening) (ones flooding)) ≡ snapshot n progress (ticked n nodes)

@@ -1,20 +1,23 @@
--- A slot, as the code keeps it: sets of nodes, repeats left, and the slots of all nodes in each state. Assumes nothing.
+-- A slot, as the code keeps it: sets of nodes, a queue of sets for the repeats, and the slots of all nodes in each state. Assumes nothing.
 use Prim.Native.Nat.{ℕ, zero, suc, _+_, _-_, _*_, _^_, _≤_, _<_}
 use mathlib.Core.Path.{_≡_, refl, sym, ap, ap₂, subst, _∙_}
 use mathlib.Core.Bool.{Bool, true, false, not, cond, _&&_, _||_}
 use mathlib.Core.List.{List}
-use mathlib.Core.Logic.{⊎-elim}
-use native.Mathlib.Nat.{mul-le-mul-right}
+use mathlib.Core.Logic.{_⊎_, inl, inr, ⊎-elim}
+use native.Mathlib.Nat.{mul-le-mul-right, eq-or-lt-of-le}
 use native.Mathlib.Omega.{arith}
+use lib.Bits.{bitAnd, and-le-l, or-lt}
 use lib.Dec.{eqb}
 use lib.Count.{ones}
-use lib.ListN.{getD}
+use lib.ListN.{length, getD, set}
+use lib.Seq.{getD-set-same, getD-set-other}
+use borrow.Author.Tests.{eqb-true, eqb-false, eq-eqb, ne-eqb}
 use Rattle.network.specs.Graph.{has, setOf, count}
-use Rattle.network.proofs.Sets.{two, never, has-setOf, setOf-cong}
+use Rattle.network.proofs.Lowest.{has-minus}
+use Rattle.network.proofs.Sets.{two, never, same, has-or, has-setOf, setOf-lt}
 use Rattle.phy.specs.declared.node.Node.{Node}
 use Rattle.phy.specs.declared.node.NodeState.{NodeState}
 use Rattle.phy.specs.declared.node.NodeState.the-variants.{Listen, Flood, Sleep}
-use Rattle.phy.specs.declared.node.Payload.{Payload}
 use Rattle.phy.specs.declared.slot.Awake.{Awake}
 use Rattle.phy.specs.declared.slot.Flood.{Flood as Floods}
 use Rattle.phy.specs.declared.slot.Settings.{Settings}
@@ -24,11 +27,12 @@ use Rattle.phy.specs.declared.snapshot.Taken.{Taken}
 use Rattle.random.specs.declared.draws.DrawSource.{DrawSource}
 use Rattle.random.specs.Reception.{heard}
 use Rattle.phy.specs.Node.{tick, tickIn, transition, transitionIn, listens, floods, sleeps, isListening, isFlooding, isSleeping}
-use Rattle.phy.specs.Slot.{Setup, Shots, Standing, Tries, at, sumOf, ticked, moved, snapshot, receivers, attemptAll, triesIn, takeWhile, slotStep}
-use Rattle.phy.specs.View.{leftAfter, Advanced, Holding, Stands, setupOf, triesOf, shownOf, shotOf, shotsOf, shotsIn}
-use Rattle.phy.proofs.Nodes.{tick-state, at-ticked, at-moved, state-ticked, total-slot, ones-setOf, three-states}
+use Rattle.phy.specs.Slot.{Setup, Shots, Standing, at, sumOf, ticked, moved, snapshot, receivers, attemptAll, triesIn, takeWhile, slotStep}
+use Rattle.phy.specs.View.{awakeAfter, placeAfter, Queued, Holding, Stands, setupOf, triesOf, shownOf, shotOf, shotsOf, shotsIn}
+use Rattle.phy.proofs.Nodes.{tick-state, at-ticked, at-moved, total-slot, ones-setOf, three-states}
 use Rattle.phy.proofs.Counts.{all-slots}
-use Rattle.phy.proofs.Reached.{reached-listens}
+use Rattle.phy.proofs.Masks.{has-and, set-is}
+use Rattle.phy.proofs.Places.{place-first, place-lt, place-other, place-then, place-last}
 use Rattle.phy.proofs.Slots.{awake-few, shot-is, tries-are}
 
 -- ---- one node
@@ -39,44 +43,100 @@ onward-is : (repeats : ℕ) (heard : Bool) (v : Node) → transition repeats hea
 unfolding transition tick
 onward-is repeats heard v = ap (λ (st : NodeState). transitionIn st repeats heard (tickIn (v .state) v)) (tick-state v)
 
--- what the code does with a node whose state is st: its bits in the two sets, and its repeats
-record Followed (st : NodeState) (repeats : ℕ) (heard : Bool) (left : ℕ) (v w : Node) : Type 0 where
+-- a node's repeats, one less
+pred-eqb : (r i : ℕ) → 1 ≤ r → eqb (r - 1) i ≡ eqb r (i + 1)
+pred-eqb r i h = same (λ e. eq-eqb r (i + 1) (omega (arith, eqb-true (r - 1) i e))) (λ e. eq-eqb (r - 1) i (omega (arith, eqb-true r (i + 1) e)))
+
+and-false : (b : Bool) → b && false ≡ false
+and-false true = refl
+and-false false = refl
+
+-- what follows for a node v whose state is st: it becomes w
+record Followed (st : NodeState) (repeats : ℕ) (heard : Bool) (v w : Node) : Type 0 where
   listening : isListening w ≡ listens st && not heard
-  flooding : isFlooding w ≡ heard || (floods st && not (eqb (leftAfter (floods st) heard left repeats) 0))
-  left-now : isFlooding w ≡ true → leftAfter (floods st) heard left repeats ≡ w .«flood_remaining»
+  flooding : isFlooding w ≡ (floods st && not (eqb (v .«flood_remaining») 1)) || (listens st && heard)
+  left : isFlooding w ≡ true → (1 ≤ w .«flood_remaining») × (w .«flood_remaining» ≤ repeats)
+  later : (i : ℕ) → i + 1 < repeats → isFlooding w && eqb (w .«flood_remaining») (i + 1) ≡ floods st && eqb (v .«flood_remaining») (i + 1 + 1)
+  newest : isFlooding w && eqb (w .«flood_remaining») repeats ≡ listens st && heard
   payload : w .payload ≡ v .payload
   slots-listen : w .«slots_listen» ≡ v .«slots_listen» + cond (listens st) 1 0
   slots-flood : w .«slots_flood» ≡ v .«slots_flood» + cond (floods st) 1 0
   slots-sleep : w .«slots_sleep» ≡ v .«slots_sleep» + cond (sleeps st) 1 0
 
-followed : (st : NodeState) (repeats : ℕ) (heard : Bool) (left : ℕ) (v : Node) → v .state ≡ st → (heard ≡ true → listens st ≡ true) → (floods st ≡ true → left ≡ v .«flood_remaining»)
-    → Followed st repeats heard left v (onward st repeats heard v)
-followed Listen repeats true left v e only are =
-    record { listening = refl; flooding = refl; left-now = λ f. refl; payload = refl; slots-listen = refl; slots-flood = omega arith; slots-sleep = omega arith }
-followed Listen repeats false left v e only are =
-    record { listening = ap listens e; flooding = ap floods e; left-now = λ f. never f (ap floods e); payload = refl; slots-listen = refl; slots-flood = omega arith; slots-sleep = omega arith }
-followed Sleep repeats true left v e only are = never (only refl) refl
-followed Sleep repeats false left v e only are =
-    record { listening = ap listens e; flooding = ap floods e; left-now = λ f. never f (ap floods e); payload = refl; slots-listen = omega arith; slots-flood = omega arith; slots-sleep = refl }
-followed Flood repeats true left v e only are = never (only refl) refl
-followed Flood repeats false left v e only are =
+followed : (st : NodeState) (repeats : ℕ) (heard : Bool) (v : Node) → v .state ≡ st → 1 ≤ repeats
+    → (floods st ≡ true → (1 ≤ v .«flood_remaining») × (v .«flood_remaining» ≤ repeats))
+    → Followed st repeats heard v (onward st repeats heard v)
+followed Listen repeats true v e some are =
     record {
-      listening = silent (eqb (v .«flood_remaining» - 1) 0);
-      flooding = more (eqb (v .«flood_remaining» - 1) 0) ∙ ap (λ (l : ℕ). not (eqb (l - 1) 0)) (sym (are refl));
-      left-now = λ f. ap (λ (l : ℕ). l - 1) (are refl);
+      listening = refl;
+      flooding = refl;
+      left = λ f. (some, omega arith);
+      later = λ i l. ne-eqb repeats (i + 1) (λ q. absurd (omega (arith, q, l)));
+      newest = eq-eqb repeats repeats refl;
+      payload = refl;
+      slots-listen = refl;
+      slots-flood = omega arith;
+      slots-sleep = omega arith;
+    }
+followed Listen repeats false v e some are =
+    record {
+      listening = ap listens e;
+      flooding = ap floods e;
+      left = λ f. never f (ap floods e);
+      later = λ i l. ap (λ (b : Bool). b && eqb (v .«flood_remaining») (i + 1)) (ap floods e);
+      newest = ap (λ (b : Bool). b && eqb (v .«flood_remaining») repeats) (ap floods e);
+      payload = refl;
+      slots-listen = refl;
+      slots-flood = omega arith;
+      slots-sleep = omega arith;
+    }
+followed Sleep repeats heard v e some are =
+    record {
+      listening = ap listens e;
+      flooding = ap floods e;
+      left = λ f. never f (ap floods e);
+      later = λ i l. ap (λ (b : Bool). b && eqb (v .«flood_remaining») (i + 1)) (ap floods e);
+      newest = ap (λ (b : Bool). b && eqb (v .«flood_remaining») repeats) (ap floods e);
+      payload = refl;
+      slots-listen = omega arith;
+      slots-flood = omega arith;
+      slots-sleep = refl;
+    }
+followed Flood repeats heard v e some are =
+    record {
+      listening = silent (eqb m 0);
+      flooding = goes-on (eqb m 0) ∙ ap not (pred-eqb (v .«flood_remaining») 0 (are refl .0)) ∙ or-false (not (eqb (v .«flood_remaining») 1));
+      left = λ f. (positive m (two (eqb m 0)) f, omega (arith, are refl .1));
+      later = λ i l. ap (λ (b : Bool). b && eqb m (i + 1)) (goes-on (eqb m 0)) ∙ again i (two (eqb m (i + 1))) ∙ pred-eqb (v .«flood_remaining») (i + 1) (are refl .0);
+      newest = ap (λ (b : Bool). floods (cond (eqb m 0) Sleep Flood) && b) (ne-eqb m repeats (λ q. absurd (omega (arith, q, are refl .0, are refl .1)))) ∙ and-false (floods (cond (eqb m 0) Sleep Flood));
       payload = refl;
       slots-listen = omega arith;
       slots-flood = refl;
       slots-sleep = omega arith;
     }
   where
+    m : ℕ
+    m = v .«flood_remaining» - 1
+
     silent : (b : Bool) → listens (cond b Sleep Flood) ≡ false
     silent true = refl
     silent false = refl
 
-    more : (b : Bool) → floods (cond b Sleep Flood) ≡ not b
-    more true = refl
-    more false = refl
+    goes-on : (b : Bool) → floods (cond b Sleep Flood) ≡ not b
+    goes-on true = refl
+    goes-on false = refl
+
+    or-false : (b : Bool) → b ≡ b || false
+    or-false true = refl
+    or-false false = refl
+
+    positive : (k : ℕ) → (eqb k 0 ≡ true) ⊎ (eqb k 0 ≡ false) → floods (cond (eqb k 0) Sleep Flood) ≡ true → 1 ≤ k
+    positive k (inl q) f = never f (ap (λ (b : Bool). floods (cond b Sleep Flood)) q)
+    positive k (inr q) f = omega (arith, eqb-false k 0 q)
+
+    again : (i : ℕ) → (eqb m (i + 1) ≡ true) ⊎ (eqb m (i + 1) ≡ false) → not (eqb m 0) && eqb m (i + 1) ≡ eqb m (i + 1)
+    again i (inl q) = ap (λ (b : Bool). not b && eqb m (i + 1)) (ne-eqb m 0 (λ z. absurd (omega (arith, z, eqb-true m (i + 1) q))))
+    again i (inr q) = ap (λ (b : Bool). not (eqb m 0) && b) q ∙ and-false (not (eqb m 0)) ∙ sym q
 
 -- ---- sums of which each part grows by one or stays
 pub sum-more : (f : Node → ℕ) (before after : List Node) (p : ℕ → Bool) (n : ℕ) → ((j : ℕ) → j < n → f (at after j) ≡ f (at before j) + cond (p j) 1 0)
@@ -90,43 +150,85 @@ unfolding sumOf
 sum-cong f before after zero h = refl
 sum-cong f before after (suc n) h = ap₂ _+_ (sum-cong f before after n (λ j b. h j (omega arith))) (h n (omega arith))
 
--- ---- all nodes, after a slot in which the nodes of a set heard, all of them listeners
-module _ (n repeats reached : ℕ) (nodes : List Node) (before r : Awake) (l l' : List ℕ)
-    (who-listens : before .listening ≡ setOf n (λ (j : ℕ). isListening (at nodes j)))
-    (who-floods : before .flooding ≡ setOf n (λ (j : ℕ). isFlooding (at nodes j)))
-    (lefts : (j : ℕ) → j < n → isFlooding (at nodes j) ≡ true → getD l j 0 ≡ at nodes j .«flood_remaining»)
-    (only : (j : ℕ) → j < n → has reached j ≡ true → isListening (at nodes j) ≡ true)
-    (adv : Advanced n repeats before reached l r l') where
+-- ---- all nodes, after a slot in which the nodes of a set heard
+module _ (n repeats reached : ℕ) (nodes : List Node) (x : Awake) (e : List ℕ) (p : ℕ)
+    (who-listens : x .listening ≡ setOf n (λ (j : ℕ). isListening (at nodes j)))
+    (who-floods : x .flooding ≡ setOf n (λ (j : ℕ). isFlooding (at nodes j)))
+    (q : Queued n repeats e p nodes) where
   abbrev pub afterwards : List Node
   afterwards = moved n repeats reached (ticked n nodes)
+
+  abbrev hearers : ℕ
+  hearers = bitAnd (x .listening) reached
 
   each : (j : ℕ) → j < n → at afterwards j ≡ onward (at nodes j .state) repeats (has reached j) (at nodes j)
   each j b = at-moved n repeats reached (ticked n nodes) j b ∙ ap (transition repeats (has reached j)) (at-ticked n nodes j b) ∙ onward-is repeats (has reached j) (at nodes j)
 
-  step : (j : ℕ) → j < n → Followed (at nodes j .state) repeats (has reached j) (getD l j 0) (at nodes j) (at afterwards j)
+  step : (j : ℕ) → j < n → Followed (at nodes j .state) repeats (has reached j) (at nodes j) (at afterwards j)
   step j b =
-      subst (Followed (at nodes j .state) repeats (has reached j) (getD l j 0) (at nodes j)) (sym (each j b))
-      (followed (at nodes j .state) repeats (has reached j) (getD l j 0) (at nodes j) refl (only j b) (lefts j b))
+      subst (Followed (at nodes j .state) repeats (has reached j) (at nodes j)) (sym (each j b))
+      (followed (at nodes j .state) repeats (has reached j) (at nodes j) refl (omega (arith, q .place)) (q .left j b))
 
-  listening-bit : (j : ℕ) → j < n → has (before .listening) j ≡ isListening (at nodes j)
+  listening-bit : (j : ℕ) → j < n → has (x .listening) j ≡ isListening (at nodes j)
   listening-bit j b = ap (λ (s : ℕ). has s j) who-listens ∙ has-setOf n _ j b
 
-  flooding-bit : (j : ℕ) → j < n → has (before .flooding) j ≡ isFlooding (at nodes j)
+  flooding-bit : (j : ℕ) → j < n → has (x .flooding) j ≡ isFlooding (at nodes j)
   flooding-bit j b = ap (λ (s : ℕ). has s j) who-floods ∙ has-setOf n _ j b
 
-  pub listening-now : r .listening ≡ setOf n (λ (j : ℕ). isListening (at afterwards j))
-  listening-now = adv .listening ∙ setOf-cong n (λ j b. ap (λ (x : Bool). x && not (has reached j)) (listening-bit j b) ∙ sym (step j b .listening))
+  heard-bit : (j : ℕ) → j < n → has hearers j ≡ isListening (at nodes j) && has reached j
+  heard-bit j b = has-and (x .listening) reached j ∙ ap (λ (y : Bool). y && has reached j) (listening-bit j b)
 
-  pub flooding-now : r .flooding ≡ setOf n (λ (j : ℕ). isFlooding (at afterwards j))
+  done-bit : (j : ℕ) → j < n → has (getD e p 0) j ≡ isFlooding (at nodes j) && eqb (at nodes j .«flood_remaining») 1
+  done-bit j b = ap (λ (k : ℕ). has (getD e k 0) j) (sym (place-first repeats p (q .place))) ∙ q .stand 0 j (omega (arith, q .place)) b
+
+  listening-small : x .listening < 2 ^ n
+  listening-small = subst (λ (s : ℕ). s < 2 ^ n) (sym who-listens) (setOf-lt n _)
+
+  flooding-small : x .flooding < 2 ^ n
+  flooding-small = subst (λ (s : ℕ). s < 2 ^ n) (sym who-floods) (setOf-lt n _)
+
+  pub listening-now : awakeAfter (getD e p 0) reached x .listening ≡ setOf n (λ (j : ℕ). isListening (at afterwards j))
+  listening-now =
+      set-is n _ (omega (arith, listening-small))
+      (λ j b. has-minus (x .listening) reached j ∙ ap (λ (y : Bool). y && not (has reached j)) (listening-bit j b) ∙ sym (step j b .listening))
+
+  pub flooding-now : awakeAfter (getD e p 0) reached x .flooding ≡ setOf n (λ (j : ℕ). isFlooding (at afterwards j))
   flooding-now =
-      adv .flooding
-      ∙ setOf-cong n
+      set-is n _
+      (or-lt n (x .flooding - bitAnd (x .flooding) (getD e p 0)) hearers (omega (arith, flooding-small)) (omega (arith, listening-small, and-le-l (x .listening) reached)))
       (λ j b.
-      ap (λ (x : Bool). has reached j || (x && not (eqb (leftAfter x (has reached j) (getD l j 0) repeats) 0))) (flooding-bit j b) ∙ sym (step j b .flooding))
+      has-or (x .flooding - bitAnd (x .flooding) (getD e p 0)) hearers j
+      ∙ ap₂ _||_ (has-minus (x .flooding) (getD e p 0) j ∙ ap₂ (λ (y z : Bool). y && not z) (flooding-bit j b) (done-bit j b) ∙ own (isFlooding (at nodes j)) _) (heard-bit j b)
+      ∙ sym (step j b .flooding))
+    where
+      own : (y z : Bool) → y && not (y && z) ≡ y && not z
+      own true z = refl
+      own false z = refl
 
-  pub left-now : (j : ℕ) → j < n → isFlooding (at afterwards j) ≡ true → getD l' j 0 ≡ at afterwards j .«flood_remaining»
-  left-now j b f =
-      adv .left j b ∙ ap (λ (x : Bool). leftAfter x (has reached j) (getD l j 0) repeats) (flooding-bit j b) ∙ step j b .left-now f
+  pub queued-now : p < length e → Queued n repeats (set e p hearers) (placeAfter repeats p 1) afterwards
+  queued-now room =
+      record {
+        place = place-lt repeats p 1 (q .place) (omega (arith, q .place));
+        left = λ j b. step j b .left;
+        stand = λ i j l b. ⊎-elim (λ w. newest-place i j b w) (λ w. later-place i j b w) (eq-or-lt-of-le l);
+      }
+    where
+      newest-place : (i j : ℕ) → j < n → suc i ≡ repeats → has (getD (set e p hearers) (placeAfter repeats (placeAfter repeats p 1) i) 0) j ≡ isFlooding (at afterwards j) && eqb (at afterwards j .«flood_remaining») (i + 1)
+      newest-place i j b w =
+          let all : i + 1 ≡ repeats = omega (arith, w) in
+          ap (λ (k : ℕ). has (getD (set e p hearers) k 0) j) (place-last repeats p i (q .place) all)
+          ∙ ap (λ (s : ℕ). has s j) (getD-set-same e p hearers 0 room)
+          ∙ heard-bit j b
+          ∙ sym (step j b .newest)
+          ∙ ap (λ (k : ℕ). isFlooding (at afterwards j) && eqb (at afterwards j .«flood_remaining») k) (sym all)
+
+      later-place : (i j : ℕ) → j < n → suc i < repeats → has (getD (set e p hearers) (placeAfter repeats (placeAfter repeats p 1) i) 0) j ≡ isFlooding (at afterwards j) && eqb (at afterwards j .«flood_remaining») (i + 1)
+      later-place i j b w =
+          let more : i + 1 < repeats = omega (arith, w) in
+          ap (λ (k : ℕ). has (getD (set e p hearers) k 0) j) (place-then repeats p i (q .place) more)
+          ∙ ap (λ (s : ℕ). has s j) (getD-set-other e p (placeAfter repeats p (i + 1)) hearers 0 (place-other repeats p (i + 1) (q .place) (omega arith) more))
+          ∙ q .stand (i + 1) j more b
+          ∙ sym (step j b .later i more)
 
   pub payload-now : (j : ℕ) → j < n → at afterwards j .payload ≡ at nodes j .payload
   payload-now j b = step j b .payload
@@ -141,7 +243,7 @@ module _ (n repeats reached : ℕ) (nodes : List Node) (before r : Awake) (l l' 
   sleeps-now = sum-more (λ (v : Node). v .«slots_sleep») nodes afterwards (λ (j : ℕ). isSleeping (at nodes j)) n (λ j b. step j b .slots-sleep)
 
 -- ---- the sums are nodes times slots, so that one slot more has room
-module _ (n : ℕ) {x : Floods} {l h b : List ℕ} {s : Standing} {seen : Shown} {progress : ℕ} (few : n ≤ 32) (early : x .slot .0 < 2 ^ 40) (st : Stands n x l h b s)
+module _ (n : ℕ) {x : Floods} {h b : List ℕ} {s : Standing} {seen : Shown} {progress : ℕ} (few : n ≤ 32) (early : x .slot .0 < 2 ^ 40) (st : Stands n x h b s)
     (seen-is : seen ≡ shownOf n progress (ones (x .listening)) (ones (x .flooding))) where
   sums : x .«slots_listen» + x .«slots_flood» + x .«slots_sleep» ≡ n * x .slot .0
   sums = omega (arith, st .listens, st .floods, st .sleeps, all-slots (s .nodes) n (x .slot .0) (λ j p. st .counted j p ∙ sym (st .slot)))
@@ -161,11 +263,12 @@ module _ (n : ℕ) {x : Floods} {l h b : List ℕ} {s : Standing} {seen : Shown}
   few-slots = (omega (arith, sums, bounded, early, shown-few .0), omega (arith, sums, bounded, early, shown-few .1), omega (arith, sums, bounded, early, shown-few .2))
 
 -- ---- a whole slot: what its parts gave leads where the definitions lead
-module _ (g : Settings) (rows : List ℕ) (seed : ℕ) (x : Floods) (l l' h b b' : List ℕ) (s : Standing) (st : Stands (g .nodes) x l h b s)
+module _ (g : Settings) (rows : List ℕ) (seed : ℕ) (x : Floods) (e : List ℕ) (p : ℕ) (h b b' : List ℕ) (s : Standing) (st : Stands (g .nodes) x h b s)
+    (q : Queued (g .nodes) (g .repeats) e p (s .nodes))
     (seen : Shown) (seen-is : seen ≡ shownOf (g .nodes) (g .progress) (ones (x .listening)) (ones (x .flooding)))
     (tried : Tried)
     (tried-is : triesOf tried ≡ attemptAll (heard (g .rate) seed) (record { attempts = x .attempts; successes = x .successes; reached = 0 }) (receivers rows (has (x .flooding)) (has (x .listening)) (g .nodes) (g .nodes)))
-    (r : Awake) (adv : Advanced (g .nodes) (g .repeats) (record { listening = x .listening; flooding = x .flooding }) (tried .reached) l r l')
+    (r : Awake) (awake-is : r ≡ awakeAfter (getD e p 0) (tried .reached) (record { listening = x .listening; flooding = x .flooding }))
     (taken : Taken) (taken-is : shotsOf taken b' ≡ takeWhile (g .interval) (shotOf seen) (x .slot .0) (suc (x .slot .0)) (shotsIn x b)) where
   abbrev n : ℕ
   n = g .nodes
@@ -176,16 +279,14 @@ module _ (g : Settings) (rows : List ℕ) (seed : ℕ) (x : Floods) (l l' h b b'
   abbrev counted : List Node
   counted = ticked n (s .nodes)
 
+  abbrev before : Awake
+  before = record { listening = x .listening; flooding = x .flooding }
+
   tries : triesOf tried ≡ triesIn setup counted (s .attempts) (s .successes)
   tries =
       tried-is
       ∙ tries-are n (s .nodes) (x .listening) (x .flooding) (st .listening) (st .flooding) setup (x .attempts) (x .successes) refl
       ∙ ap₂ (triesIn setup counted) (st .attempts) (st .successes)
-
-  only : (j : ℕ) → j < n → has (tried .reached) j ≡ true → isListening (at (s .nodes) j) ≡ true
-  only j p e =
-      ap listens (sym (state-ticked n (s .nodes) j p))
-      ∙ reached-listens setup counted (s .attempts) (s .successes) j p (ap (λ (t : Tries). has (t .reached) j) (sym tries) ∙ e)
 
   shots : shotsOf taken b' ≡ takeWhile (g .interval) (snapshot n (g .progress) counted) (s .slot) (suc (s .slot)) (s .shots)
   shots =
@@ -245,21 +346,25 @@ module _ (g : Settings) (rows : List ℕ) (seed : ℕ) (x : Floods) (l l' h b b'
         snapshots = taken .count;
         source = source;
       })
-      l' h b' (slotStep setup s)
+      h b' (slotStep setup s)
   slot-stands source =
-      subst (Stands n _ l' h b') arrives
+      subst (Stands n _ h b') arrives
       (record {
-        listening = listening-now n (g .repeats) (tried .reached) (s .nodes) _ r l l' (st .listening) (st .flooding) (st .left) only adv;
-        flooding = flooding-now n (g .repeats) (tried .reached) (s .nodes) _ r l l' (st .listening) (st .flooding) (st .left) only adv;
-        left = left-now n (g .repeats) (tried .reached) (s .nodes) _ r l l' (st .listening) (st .flooding) (st .left) only adv;
-        held = λ j p. subst (Holding h (x .holding) j) (sym (payload-now n (g .repeats) (tried .reached) (s .nodes) _ r l l' (st .listening) (st .flooding) (st .left) only adv j p)) (st .held j p);
+        listening = ap (λ (y : Awake). y .listening) awake-is ∙ listening-now n (g .repeats) (tried .reached) (s .nodes) before e p (st .listening) (st .flooding) q;
+        flooding = ap (λ (y : Awake). y .flooding) awake-is ∙ flooding-now n (g .repeats) (tried .reached) (s .nodes) before e p (st .listening) (st .flooding) q;
+        held = λ j b. subst (Holding h (x .holding) j) (sym (payload-now n (g .repeats) (tried .reached) (s .nodes) before e p (st .listening) (st .flooding) q j b)) (st .held j b);
         holders = st .holders;
-        listens = ap₂ _+_ (st .listens) listen-count ∙ sym (listens-now n (g .repeats) (tried .reached) (s .nodes) _ r l l' (st .listening) (st .flooding) (st .left) only adv);
-        floods = ap₂ _+_ (st .floods) flood-count ∙ sym (floods-now n (g .repeats) (tried .reached) (s .nodes) _ r l l' (st .listening) (st .flooding) (st .left) only adv);
-        sleeps = ap₂ _+_ (st .sleeps) sleep-count ∙ sym (sleeps-now n (g .repeats) (tried .reached) (s .nodes) _ r l l' (st .listening) (st .flooding) (st .left) only adv);
+        listens = ap₂ _+_ (st .listens) listen-count ∙ sym (listens-now n (g .repeats) (tried .reached) (s .nodes) before e p (st .listening) (st .flooding) q);
+        floods = ap₂ _+_ (st .floods) flood-count ∙ sym (floods-now n (g .repeats) (tried .reached) (s .nodes) before e p (st .listening) (st .flooding) q);
+        sleeps = ap₂ _+_ (st .sleeps) sleep-count ∙ sym (sleeps-now n (g .repeats) (tried .reached) (s .nodes) before e p (st .listening) (st .flooding) q);
         counted = λ j p. total-slot n (g .repeats) (tried .reached) (s .nodes) j p ∙ ap (λ (k : ℕ). k + 1) (st .counted j p ∙ sym (st .slot));
         attempts = refl;
         successes = refl;
         slot = refl;
         shots = refl;
       })
+
+  pub slot-queued : p < length e → Queued n (g .repeats) (set e p (bitAnd (x .listening) (tried .reached))) (placeAfter (g .repeats) p 1) (slotStep setup s .nodes)
+  slot-queued room =
+      subst (λ (z : Standing). Queued n (g .repeats) (set e p (bitAnd (x .listening) (tried .reached))) (placeAfter (g .repeats) p 1) (z .nodes)) arrives
+      (queued-now n (g .repeats) (tried .reached) (s .nodes) before e p (st .listening) (st .flooding) q room)

@@ -1,6 +1,6 @@
 -- One round of a flood (document 01, "One flood").
 use Prim.Native.Nat.{ℕ, zero, suc, _+_, _*_, max}
-use mathlib.Core.Bool.{Bool, true, false, _||_}
+use mathlib.Core.Bool.{true, false, _||_}
 use mathlib.Core.List.{List}
 use lib.Dec.{eqb, ltb}
 use Rattle.random.specs.Table.{tabulate}

@@ -1,9 +1,10 @@
 -- The values that the code's structs stand for, and what its functions promise of them.
 use Prim.Native.Nat.{ℕ, _+_, _-_, _*_, _^_, _≤_, _<_}
-use mathlib.Core.Bool.{Bool, true, false, not, _&&_, _||_}
+use mathlib.Core.Bool.{Bool, true, false, not, cond, _&&_, _||_}
 use mathlib.Core.List.{List, [], _∷_}
 use mathlib.Core.Path.{_≡_}
-use lib.Dec.{eqb}
+use lib.Bits.{bitAnd, bitOr}
+use lib.Dec.{eqb, ltb}
 use lib.ListN.{length, getD}
 use lib.Ieee.{Float}
 use Rattle.network.specs.Graph.{has, setOf, count, all}
@@ -21,8 +22,8 @@ use Rattle.phy.specs.declared.node.Node.{Node}
 use Rattle.phy.specs.declared.node.Payload.{Payload}
 use Rattle.phy.specs.Node.{total, isListening, isFlooding}
 use Rattle.phy.specs.Packets.{numbersOf}
-use Rattle.phy.specs.Slot.{Setup, Tries, Shots, Standing, at, insert, sumOf, attemptAll}
-use Rattle.phy.specs.Round.{round}
+use Rattle.phy.specs.Slot.{Setup, Tries, Shots, Standing, at, insert, sumOf, attemptAll, slotStep}
+use Rattle.phy.specs.Round.{slots as slotsOf, round}
 
 -- the setup of a seed's run: an attempt's outcome is that of its draw
 abbrev pub setupOf : Settings → List ℕ → ℕ → Setup
@@ -50,18 +51,23 @@ pub record TriedOn (rate : Float) (k : ℕ) (js : List ℕ) (t r : Tried) : Type
   pub tried : (seed : ℕ) → Ready rate seed (t .attempts) (t .source)
       → (triesOf r ≡ attemptAll (heard rate seed) (triesOf t) js) × Ready rate seed (r .attempts) (r .source)
 
--- the repeats that a node has left after a slot in which it flooded or not, and heard or not
-abbrev pub leftAfter : Bool → Bool → ℕ → ℕ → ℕ
-leftAfter true heard left repeats = left - 1
-leftAfter false true left repeats = repeats
-leftAfter false false left repeats = left
+-- the nodes after a slot in which the nodes of a set heard, and after which the nodes of another have no repeats left
+abbrev pub awakeAfter : ℕ → ℕ → Awake → Awake
+awakeAfter done reached x =
+    record {
+      listening = x .listening - bitAnd (x .listening) reached;
+      flooding = bitOr (x .flooding - bitAnd (x .flooding) done) (bitAnd (x .listening) reached);
+    }
 
--- After a slot in which the nodes of a set heard: l' are the repeats left, of which there were l.
-pub record Advanced (n repeats : ℕ) (before : Awake) (reached : ℕ) (l : List ℕ) (r : Awake) (l' : List ℕ) : Type 0 where
-  pub size : length l' ≡ length l
-  pub left : (k : ℕ) → k < n → getD l' k 0 ≡ leftAfter (has (before .flooding) k) (has reached k) (getD l k 0) repeats
-  pub listening : r .listening ≡ setOf n (λ (k : ℕ). has (before .listening) k && not (has reached k))
-  pub flooding : r .flooding ≡ setOf n (λ (k : ℕ). has reached k || (has (before .flooding) k && not (eqb (leftAfter (has (before .flooding) k) (has reached k) (getD l k 0) repeats) 0)))
+-- the i-th place after p in a queue of so many places, whose first follows its last
+abbrev pub placeAfter : ℕ → ℕ → ℕ → ℕ
+placeAfter all p i = cond (ltb (p + i) all) (p + i) (p + i - all)
+
+-- The queue of the flooding nodes, from place p on, has a place for each repeat: who floods and has i + 1 repeats left stands at the i-th.
+pub record Queued (n repeats : ℕ) (e : List ℕ) (p : ℕ) (nodes : List Node) : Type 0 where
+  pub place : p < repeats
+  pub left : (j : ℕ) → j < n → isFlooding (at nodes j) ≡ true → (1 ≤ at nodes j .«flood_remaining») × (at nodes j .«flood_remaining» ≤ repeats)
+  pub stand : (i j : ℕ) → i < repeats → j < n → has (getD e (placeAfter repeats p i) 0) j ≡ isFlooding (at nodes j) && eqb (at nodes j .«flood_remaining») (i + 1)
 
 -- node j is in the set of those that hold a packet, and its twelve places of h are that packet's numbers
 abbrev pub Holding : List ℕ → ℕ → ℕ → Payload → Type 0
@@ -77,11 +83,16 @@ pub record Gave (i : ℕ) (packet h h' : List ℕ) : Type 0 where
   pub given : (m : ℕ) → m < 12 → getD h' (12 * i + m) 0 ≡ getD packet m 0
   pub others : (k m : ℕ) → (k ≡ i → ⊥) → m < 12 → getD h' (12 * k + m) 0 ≡ getD h (12 * k + m) 0
 
--- The code stands at x, with l of the repeats left, h of the packets held and the snapshot buffer b, where the definitions stand at s.
-pub record Stands (n : ℕ) (x : Flood) (l h b : List ℕ) (s : Standing) : Type 0 where
+-- the places of the nodes of a set are those numbers in h', and no other node's places are other ones
+pub record GaveAll (set : ℕ) (packet h h' : List ℕ) : Type 0 where
+  pub size : length h' ≡ length h
+  pub given : (k : ℕ) → has set k ≡ true → (m : ℕ) → m < 12 → getD h' (12 * k + m) 0 ≡ getD packet m 0
+  pub others : (k : ℕ) → has set k ≡ false → (m : ℕ) → m < 12 → getD h' (12 * k + m) 0 ≡ getD h (12 * k + m) 0
+
+-- The code stands at x, with the packets h held and the snapshot buffer b, where the definitions stand at s.
+pub record Stands (n : ℕ) (x : Flood) (h b : List ℕ) (s : Standing) : Type 0 where
   pub listening : x .listening ≡ setOf n (λ (j : ℕ). isListening (at (s .nodes) j))
   pub flooding : x .flooding ≡ setOf n (λ (j : ℕ). isFlooding (at (s .nodes) j))
-  pub left : (j : ℕ) → j < n → isFlooding (at (s .nodes) j) ≡ true → getD l j 0 ≡ at (s .nodes) j .«flood_remaining»
   pub held : (j : ℕ) → j < n → Holding h (x .holding) j (at (s .nodes) j .payload)
   pub holders : x .holding < 2 ^ 64
   -- the slots of all nodes in each state
@@ -95,32 +106,46 @@ pub record Stands (n : ℕ) (x : Flood) (l h b : List ℕ) (s : Standing) : Type
   pub slot : x .slot .0 ≡ s .slot
   pub shots : shotsIn x b ≡ s .shots
 
--- the draws are ready for some seed, and the definitions stand somewhere
-pub record Meets (g : Settings) (x : Flood) (l b : List ℕ) : Type 0 where
+-- the draws are ready for some seed, and the definitions stand somewhere, with the queue e from place p on
+pub record Meets (g : Settings) (x : Flood) (e : List ℕ) (p : ℕ) (b : List ℕ) : Type 0 where
   pub seed : ℕ
   pub packets : List ℕ
   pub standing : Standing
   pub ready : Ready (g .rate) seed (x .attempts) (x .source)
-  pub stands : Stands (g .nodes) x l packets b standing
+  pub stands : Stands (g .nodes) x packets b standing
+  pub queued : Queued (g .nodes) (g .repeats) e p (standing .nodes)
 
 -- What holds between slots: the counters have room, and the snapshots taken are those at the multiples of the interval.
 pub record Sound (g : Settings) (x : Flood) : Type 0 where
   pub few : g .nodes ≤ 32
+  pub repeats : (1 ≤ g .repeats) × (g .repeats ≤ 64)
   pub interval : 1 ≤ g .interval
   pub attempts : x .attempts ≤ 2048 * x .slot .0
   pub successes : x .successes ≤ 2048 * x .slot .0
   pub next : x .«next_snapshot» .0 ≡ x .snapshots * g .interval
 
--- From x, l and b the code came to r, l' and b' in at most k slots, and what held between slots holds again; for each seed for which the
--- draws are ready, it stands where the step of the definitions leads.
-pub record Slotted (g : Settings) (rows : List ℕ) (k : ℕ) (step : Setup → Standing → Standing) (x : Flood) (l b : List ℕ) (r : Flood) (l' b' : List ℕ) : Type 0 where
+-- From x, with the queue e from place p on and the buffer b, the code came to r, e' and b' in one slot, and what held between slots holds
+-- again; for each seed for which the draws are ready, it stands where the slot of the definitions leads.
+pub record Stepped (g : Settings) (rows : List ℕ) (p : ℕ) (x : Flood) (e b : List ℕ) (r : Flood) (e' b' : List ℕ) : Type 0 where
   pub sound : Sound g r
-  pub slots : r .slot .0 ≤ x .slot .0 + k
-  pub room : length l' ≡ length l
+  pub slots : r .slot .0 ≡ x .slot .0 + 1
+  pub room : length e' ≡ length e
   pub size : length b' ≡ length b
   pub ready : (seed : ℕ) → Ready (g .rate) seed (x .attempts) (x .source) → Ready (g .rate) seed (r .attempts) (r .source)
   pub stands : (seed : ℕ) → Ready (g .rate) seed (x .attempts) (x .source)
-      → (h : List ℕ) (s : Standing) → Stands (g .nodes) x l h b s → Stands (g .nodes) r l' h b' (step (setupOf g rows seed) s)
+      → (h : List ℕ) (s : Standing) → Stands (g .nodes) x h b s → Queued (g .nodes) (g .repeats) e p (s .nodes)
+      → Stands (g .nodes) r h b' (slotStep (setupOf g rows seed) s)
+      × Queued (g .nodes) (g .repeats) e' (placeAfter (g .repeats) p 1) (slotStep (setupOf g rows seed) s .nodes)
+
+-- The same of the slots of a round, of which there are at most so many; the queue e begins at place 0.
+pub record Slotted (g : Settings) (rows : List ℕ) (limit : ℕ) (x : Flood) (e b : List ℕ) (r : Flood) (b' : List ℕ) : Type 0 where
+  pub sound : Sound g r
+  pub slots : r .slot .0 ≤ x .slot .0 + limit
+  pub size : length b' ≡ length b
+  pub ready : (seed : ℕ) → Ready (g .rate) seed (x .attempts) (x .source) → Ready (g .rate) seed (r .attempts) (r .source)
+  pub stands : (seed : ℕ) → Ready (g .rate) seed (x .attempts) (x .source)
+      → (h : List ℕ) (s : Standing) → Stands (g .nodes) x h b s → Queued (g .nodes) (g .repeats) e 0 (s .nodes)
+      → Stands (g .nodes) r h b' (slotsOf (setupOf g rows seed) limit s)
 
 -- a round begins: all nodes listen but the initiator
 abbrev pub begunFlood : ℕ → ℕ → Flood → Flood
@@ -155,15 +180,14 @@ pub record Delivers (n first : ℕ) (packet : List ℕ) (awake before : ℕ) (h 
   pub kept : (k : ℕ) → k < n → has awake k ≡ true → (m : ℕ) → m < 12 → getD h' (12 * k + m) 0 ≡ getD h (12 * k + m) 0
 
 -- The same of a whole round.
-pub record Rounded (g : Settings) (rows : List ℕ) (limit initiator : ℕ) (packet : Packet) (x : Flood) (l h b : List ℕ) (r : Round) (l' h' b' : List ℕ) : Type 0 where
+pub record Rounded (g : Settings) (rows : List ℕ) (limit initiator : ℕ) (packet : Packet) (x : Flood) (h b : List ℕ) (r : Round) (h' b' : List ℕ) : Type 0 where
   pub sound : Sound g (r .flood)
   pub slots : r .flood .slot .0 ≤ x .slot .0 + limit
-  pub room : length l' ≡ length l
   pub held : length h' ≡ length h
   pub size : length b' ≡ length b
   pub ready : (seed : ℕ) → Ready (g .rate) seed (x .attempts) (x .source) → Ready (g .rate) seed (r .flood .attempts) (r .flood .source)
   pub stands : (seed : ℕ) → Ready (g .rate) seed (x .attempts) (x .source)
-      → (s : Standing) → Stands (g .nodes) x l h b s
-      → Stands (g .nodes) (r .flood) l' h' b' (round (setupOf g rows seed) limit initiator packet s .after)
+      → (s : Standing) → Stands (g .nodes) x h b s
+      → Stands (g .nodes) (r .flood) h' b' (round (setupOf g rows seed) limit initiator packet s .after)
       × (r .part ≡ round (setupOf g rows seed) limit initiator packet s .part)
       × (r .covered ≡ round (setupOf g rows seed) limit initiator packet s .covered)

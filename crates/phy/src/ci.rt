@@ -1,21 +1,20 @@
 // One flood by constructive interference, after the source's phy/ci.rs.
 use super::held::give;
-use super::held::holds;
+use super::held::give_all;
+use super::held::holders;
 use super::packet::Packet;
 use super::packet::numbers;
 use super::slot::Flood;
 use super::slot::Settings;
-use super::slot::put;
 use super::slot::slot;
 use network::units::NodeId;
 ghost use mathlib.Core.Path.{_≡_};
-ghost use mathlib.Core.Bool.{cond};
-ghost use Prim.Native.Nat.{ℕ, _+_, _*_, _^_, _≤_, _<_};
+ghost use Prim.Native.Nat.{ℕ, _+_, _-_, _*_, _^_, _≤_, _<_};
 ghost use lib.ListN.{length, set};
 ghost use Rattle.random.specs.Reception.{Ready};
-ghost use Rattle.phy.specs.Slot.{Setup, Standing};
-ghost use Rattle.phy.specs.Round.{lengthLimit, slots as slotsOf};
-ghost use Rattle.phy.specs.View.{Gave, Sound, Stands, Meets, begunFlood, Slotted, Delivers, Rounded};
+ghost use Rattle.phy.specs.Slot.{Standing};
+ghost use Rattle.phy.specs.Round.{lengthLimit};
+ghost use Rattle.phy.specs.View.{Gave, Sound, Stands, Meets, begunFlood, placeAfter, Slotted, Delivers, Rounded};
 
 // The configured length of a round, or none.
 pub enum RoundSlots {
@@ -52,21 +51,23 @@ struct Delivered {
     holding: u64,
 }
 
-// As a round begins, all nodes listen but the initiator, which floods and holds the packet.
+// As a round begins, all nodes listen but the initiator, which floods and holds the packet. It stands
+// at the last place of the queue, with all its repeats.
 fn begin(
     settings: Settings,
     initiator: NodeId,
     packet: [u64; 12],
     x: Flood,
-    left: &mut [u64],
+    ends: &mut [u64],
     held: &mut [u64],
 ) -> Flood
-    requires { ⌜ (settings .nodes ≤ 32) × (initiator .0 < settings .nodes) × (length packet ≡ 12) × (32 ≤ length (now left)) × (384 ≤ length (now held)) ⌝ }
-    ensures { λ r. ⌜ (r ≡ begunFlood (settings .nodes) (initiator .0) x) × (now (left .exit) ≡ set (now (left .entry)) (initiator .0) (settings .repeats)) × Gave (initiator .0) packet (now (held .entry)) (now (held .exit)) ⌝ }
+    requires { ⌜ (settings .nodes ≤ 32) × (initiator .0 < settings .nodes) × (length packet ≡ 12) × (1 ≤ settings .repeats) × (settings .repeats ≤ length (now ends)) × (384 ≤ length (now held)) ⌝ }
+    ensures { λ r. ⌜ (r ≡ begunFlood (settings .nodes) (initiator .0) x) × (now (ends .exit) ≡ set (now (ends .entry)) (settings .repeats - 1) (2 ^ initiator .0)) × Gave (initiator .0) packet (now (held .entry)) (now (held .exit)) ⌝ }
 {
     let first = initiator.0;
     let own = 1u64 << first;
-    left[first] = settings.repeats as u64;
+    let last = settings.repeats as usize - 1;
+    ends[last] = own;
     give(held, initiator, packet);
     let mut y = x;
     y.listening = (1u64 << settings.nodes) - 1 - own;
@@ -75,34 +76,40 @@ fn begin(
     y
 }
 
-// The slots of a round, up to the limit or until nobody floods.
+// The place after this one in a queue of so many.
+fn next_place(place: usize, repeats: u32) -> usize
+    requires { ⌜ place < repeats ⌝ }
+    ensures { λ r. ⌜ r ≡ placeAfter repeats place 1 ⌝ }
+{
+    let next = place + 1;
+    let all = repeats as usize;
+    if next < all { next } else { next - all }
+}
+
+// The slots of a round, up to the limit or until nobody floods. The queue begins at place 0.
 fn slots(
     settings: Settings,
     rows: &[u64; 32],
     limit: u64,
     flood: Flood,
-    left: &mut [u64],
+    ends: &mut [u64],
     buffer: &mut [u64],
 ) -> Flood
-    requires { ⌜ Sound settings flood × (flood .slot .0 + limit < 2 ^ 40) × (32 ≤ length (now left)) × Meets settings flood (now left) (now buffer) ⌝ }
-    ensures { λ r. ⌜ Slotted settings (now (rows .entry)) limit (λ (g : Setup) (s : Standing). slotsOf g limit s) flood (now (left .entry)) (now (buffer .entry)) r (now (left .exit)) (now (buffer .exit)) ⌝ }
+    requires { ⌜ Sound settings flood × (flood .slot .0 + limit < 2 ^ 40) × (64 ≤ length (now ends)) × Meets settings flood (now ends) 0 (now buffer) ⌝ }
+    ensures { λ r. ⌜ Slotted settings (now (rows .entry)) limit flood (now (ends .entry)) (now (buffer .entry)) r (now (buffer .exit)) ⌝ }
 {
     let mut x = flood;
     let mut more = limit;
+    let mut place = 0usize;
     while 0 < more {
-        x = slot(settings, rows, x, left, buffer);
+        x = slot(settings, rows, x, ends, place, buffer);
         more -= 1;
         if x.flooding == 0 {
             return x;
         }
+        place = next_place(place, settings.repeats);
     }
     x
-}
-
-fn one_if(yes: bool) -> u64
-    ensures { λ r. ⌜ r ≡ cond yes 1 0 ⌝ }
-{
-    if yes { 1 } else { 0 }
 }
 
 // Sleeping nodes get the packet; who took part, and how many are covered.
@@ -114,26 +121,19 @@ fn deliver(
     before: u64,
     held: &mut [u64],
 ) -> Delivered
-    requires { ⌜ (n ≤ 32) × (length packet ≡ 12) × (384 ≤ length (now held)) ⌝ }
+    requires { ⌜ (n ≤ 32) × (initiator .0 < n) × (length packet ≡ 12) × (384 ≤ length (now held)) ⌝ }
     ensures { λ r. ⌜ Delivers n (initiator .0) packet awake before (now (held .entry)) r (now (held .exit)) ⌝ }
 {
     let first = initiator.0;
-    let mut part = 0u64;
-    let mut covered = 0u64;
-    let mut holding = 0u64;
-    for i in 0..n {
-        let sleeps = (awake >> i) % 2 == 0;
-        if sleeps {
-            give(held, NodeId(i), packet);
-        }
-        part = put(part, NodeId(i), (i == first) | sleeps);
-        covered += one_if(sleeps | holds(held, before, NodeId(i), packet));
-        holding = put(holding, NodeId(i), sleeps | ((before >> i) % 2 == 1));
-    }
+    let all = (1u64 << n) - 1;
+    let asleep = all - (all & awake);
+    let kept = all & before;
+    let same = holders(held, kept & awake, packet);
+    give_all(held, asleep, packet);
     Delivered {
-        part,
-        covered,
-        holding,
+        part: asleep | (1u64 << first),
+        covered: u64::count_ones(asleep | same) as u64,
+        holding: asleep | kept,
     }
 }
 
@@ -145,16 +145,16 @@ pub fn flood_identical_round(
     initiator: NodeId,
     packet: Packet,
     flood: Flood,
-    left: &mut [u64],
     held: &mut [u64],
     buffer: &mut [u64],
 ) -> Round
-    requires { ⌜ Sound settings flood × (initiator .0 < settings .nodes) × (flood .slot .0 + limit < 2 ^ 40) × (32 ≤ length (now left)) × (384 ≤ length (now held)) × ((seed : ℕ) × (s : Standing) × Ready (settings .rate) seed (flood .attempts) (flood .source) × Stands (settings .nodes) flood (now left) (now held) (now buffer) s) ⌝ }
-    ensures { λ r. ⌜ Rounded settings (now (rows .entry)) limit (initiator .0) packet flood (now (left .entry)) (now (held .entry)) (now (buffer .entry)) r (now (left .exit)) (now (held .exit)) (now (buffer .exit)) ⌝ }
+    requires { ⌜ Sound settings flood × (initiator .0 < settings .nodes) × (flood .slot .0 + limit < 2 ^ 40) × (384 ≤ length (now held)) × ((seed : ℕ) × (s : Standing) × Ready (settings .rate) seed (flood .attempts) (flood .source) × Stands (settings .nodes) flood (now held) (now buffer) s) ⌝ }
+    ensures { λ r. ⌜ Rounded settings (now (rows .entry)) limit (initiator .0) packet flood (now (held .entry)) (now (buffer .entry)) r (now (held .exit)) (now (buffer .exit)) ⌝ }
 {
     let key = numbers(packet);
-    let x = begin(settings, initiator, key, flood, left, held);
-    let mut ended = slots(settings, rows, limit, x, left, buffer);
+    let mut ends = [0u64; 64];
+    let x = begin(settings, initiator, key, flood, &mut ends, held);
+    let mut ended = slots(settings, rows, limit, x, &mut ends, buffer);
     let awake = ended.listening | ended.flooding;
     let done = deliver(settings.nodes, initiator, key, awake, ended.holding, held);
     ended.holding = done.holding;

@@ -3,11 +3,11 @@
 use network::units::NodeId;
 ghost use mathlib.Core.Path.{_≡_};
 ghost use mathlib.Core.Bool.{_&&_};
-ghost use Prim.Native.Nat.{ℕ, _+_, _*_, _≤_, _<_};
+ghost use Prim.Native.Nat.{ℕ, _+_, _*_, _^_, _≤_, _<_};
 ghost use lib.Dec.{eqb};
 ghost use lib.ListN.{length, getD};
-ghost use Rattle.network.specs.Graph.{has, all};
-ghost use Rattle.phy.specs.View.{Gave, sameNumbers};
+ghost use Rattle.network.specs.Graph.{has, setOf, all};
+ghost use Rattle.phy.specs.View.{Gave, GaveAll, sameNumbers};
 
 // Node i gets the packet of these numbers.
 pub fn give(held: &mut [u64], i: NodeId, packet: [u64; 12])
@@ -33,14 +33,32 @@ fn same_numbers(held: &[u64], at: usize, packet: [u64; 12]) -> bool
     true
 }
 
-// Whether node i, if it is among those that hold a packet, holds that of these numbers.
-pub fn holds(held: &[u64], holding: u64, i: NodeId, packet: [u64; 12]) -> bool
-    requires { ⌜ (length packet ≡ 12) × (12 * i .0 + 12 ≤ length (now held)) × (i .0 < 64) ⌝ }
-    ensures { λ r. ⌜ r ≡ has holding (i .0) && sameNumbers (now (held .entry)) packet (i .0) ⌝ }
+// The nodes of a set that hold the packet of these numbers.
+pub fn holders(held: &[u64], set: u64, packet: [u64; 12]) -> u64
+    requires { ⌜ (length packet ≡ 12) × (384 ≤ length (now held)) × (set < 2 ^ 32) ⌝ }
+    ensures { λ r. ⌜ r ≡ setOf 32 (λ (k : ℕ). has «set» k && sameNumbers (now (held .entry)) packet k) ⌝ }
 {
-    let at = i.0;
-    if (holding >> at) % 2 == 1 {
-        return same_numbers(held, 12 * at, packet);
+    let mut found = 0u64;
+    let mut rest = set;
+    while rest != 0 {
+        let j = u64::trailing_zeros(rest) as usize;
+        if same_numbers(held, 12 * j, packet) {
+            found |= 1u64 << j;
+        }
+        rest -= 1u64 << j;
     }
-    false
+    found
+}
+
+// The nodes of a set get the packet of these numbers.
+pub fn give_all(held: &mut [u64], set: u64, packet: [u64; 12])
+    requires { ⌜ (length packet ≡ 12) × (384 ≤ length (now held)) × (set < 2 ^ 32) ⌝ }
+    ensures { λ _. ⌜ GaveAll «set» packet (now (held .entry)) (now (held .exit)) ⌝ }
+{
+    let mut rest = set;
+    while rest != 0 {
+        let j = u64::trailing_zeros(rest) as usize;
+        give(held, NodeId(j), packet);
+        rest -= 1u64 << j;
+    }
 }

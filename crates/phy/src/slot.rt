@@ -7,14 +7,14 @@ use network::units::Slot;
 use random::draws::DrawSource;
 use random::reception::receive;
 ghost use mathlib.Core.Path.{_≡_};
-ghost use mathlib.Core.Bool.{Bool};
 ghost use mathlib.Core.List.{[], _∷_};
-ghost use Prim.Native.Nat.{ℕ, _+_, _*_, _^_, _≤_, _<_};
+ghost use Prim.Native.Nat.{_+_, _*_, _^_, _≤_, _<_};
 ghost use lib.Count.{ones};
-ghost use lib.ListN.{length};
-ghost use Rattle.network.specs.Graph.{has as hasNode, setOf};
-ghost use Rattle.phy.specs.Slot.{among, receivers, slotStep};
-ghost use Rattle.phy.specs.View.{TriedOn, leftAfter, Advanced, Sound, Meets, Slotted, shownOf};
+ghost use lib.ListN.{length, getD, set};
+ghost use lib.Bits.{bitAnd};
+ghost use Rattle.network.specs.Graph.{has as hasNode};
+ghost use Rattle.phy.specs.Slot.{among, receivers};
+ghost use Rattle.phy.specs.View.{TriedOn, awakeAfter, Sound, Meets, Stepped, shownOf};
 
 // What a round is given: how many nodes there are, the repeats, the snapshot interval, the progress
 // that snapshots show, and the loss rate.
@@ -41,8 +41,8 @@ pub struct Tried {
 }
 
 // Where a run stands in its floods: the sets of the nodes that listen, that flood and that hold a
-// packet, and the slots that all nodes have spent in each state. A lent slice has the repeats that
-// each flooding node has left, another the packets held.
+// packet, and the slots that all nodes have spent in each state. The packets held stand in a lent
+// slice.
 pub struct Flood {
     pub listening: u64,
     pub flooding: u64,
@@ -91,73 +91,44 @@ fn attempts_at(set: u64, rate: f64, t: Tried) -> Tried
 {
     let mut tried = t;
     let mut rest = set;
-    let mut j = 0usize;
     while rest != 0 {
-        if rest % 2 == 1 {
-            tried = attempt(NodeId(j), rate, tried);
-        }
-        rest /= 2;
-        j += 1;
+        let j = u64::trailing_zeros(rest) as usize;
+        tried = attempt(NodeId(j), rate, tried);
+        rest -= 1u64 << j;
     }
     tried
 }
 
 // Each flooding node tries its listening neighbours.
 fn attempts(rows: &[u64; 32], n: usize, listening: u64, flooding: u64, rate: f64, t: Tried) -> Tried
-    requires { ⌜ (n ≤ 32) × (listening < 2 ^ n) × (t .attempts + 2048 < 2 ^ 64) × (t .successes + 2048 < 2 ^ 64) ⌝ }
+    requires { ⌜ (n ≤ 32) × (listening < 2 ^ n) × (flooding < 2 ^ n) × (t .attempts + 2048 < 2 ^ 64) × (t .successes + 2048 < 2 ^ 64) ⌝ }
     ensures { λ r. ⌜ TriedOn rate (64 * n) (receivers (now (rows .entry)) (hasNode flooding) (hasNode listening) n n) t r ⌝ }
 {
+    if listening == 0 {
+        return t;
+    }
     let mut tried = t;
-    for i in 0..n {
-        if (flooding >> i) % 2 == 1 {
-            tried = attempts_at(rows[i] & listening, rate, tried);
-        }
+    let mut rest = flooding;
+    while rest != 0 {
+        let i = u64::trailing_zeros(rest) as usize;
+        tried = attempts_at(rows[i] & listening, rate, tried);
+        rest -= 1u64 << i;
     }
     tried
 }
 
-// Node j is in the set, of which only nodes below j are known, or it is not.
-pub fn put(set: u64, j: NodeId, present: bool) -> u64
-    requires { ⌜ j .0 < 64 ⌝ }
-    ensures { λ r. ⌜ ((f : ℕ → Bool) → set ≡ setOf (j .0) f → present ≡ f (j .0) → r ≡ setOf (j .0 + 1) f) ⌝ }
+// The nodes after a slot's transmissions, of which the nodes of a set heard one. The nodes at this
+// place of the queue have no repeats left, and the listeners that heard take their place.
+fn advance(ends: &mut [u64], place: usize, awake: Awake, reached: u64) -> Awake
+    requires { ⌜ place < length (now ends) ⌝ }
+    ensures { λ r. ⌜ (r ≡ awakeAfter (getD (now (ends .entry)) place 0) reached awake) × (now (ends .exit) ≡ set (now (ends .entry)) place (bitAnd (awake .listening) reached)) ⌝ }
 {
-    let at = j.0;
-    if present { set | (1 << at) } else { set }
-}
-
-// The repeats that a node has left after a slot: a flooder has lost one, a listener that heard has
-// all of them.
-fn left_after(floods: bool, heard: bool, left: u64, repeats: u64) -> u64
-    ensures { λ r. ⌜ r ≡ leftAfter floods heard left repeats ⌝ }
-{
-    if floods {
-        if left == 0 {
-            return 0;
-        }
-        return left - 1;
-    }
-    if heard { repeats } else { left }
-}
-
-// The nodes after a slot's transmissions, of which the nodes of a set heard one.
-fn advance(left: &mut [u64], n: usize, repeats: u64, awake: Awake, reached: u64) -> Awake
-    requires { ⌜ (n ≤ 32) × (n ≤ length (now left)) ⌝ }
-    ensures { λ r. ⌜ Advanced n repeats awake reached (now (left .entry)) r (now (left .exit)) ⌝ }
-{
-    let mut listening = 0u64;
-    let mut flooding = 0u64;
-    for i in 0..n {
-        let heard = (reached >> i) % 2 == 1;
-        let floods = (awake.flooding >> i) % 2 == 1;
-        let listens = (awake.listening >> i) % 2 == 1;
-        let now = left_after(floods, heard, left[i], repeats);
-        left[i] = now;
-        listening = put(listening, NodeId(i), listens & !heard);
-        flooding = put(flooding, NodeId(i), heard | (floods & (now != 0)));
-    }
+    let heard = awake.listening & reached;
+    let done = awake.flooding & ends[place];
+    ends[place] = heard;
     Awake {
-        listening,
-        flooding,
+        listening: awake.listening - heard,
+        flooding: (awake.flooding - done) | heard,
     }
 }
 
@@ -181,11 +152,12 @@ pub fn slot(
     settings: Settings,
     rows: &[u64; 32],
     x: Flood,
-    left: &mut [u64],
+    ends: &mut [u64],
+    place: usize,
     buffer: &mut [u64],
 ) -> Flood
-    requires { ⌜ Sound settings x × (x .slot .0 < 2 ^ 40) × (32 ≤ length (now left)) × Meets settings x (now left) (now buffer) ⌝ }
-    ensures { λ r. ⌜ Slotted settings (now (rows .entry)) 1 slotStep x (now (left .entry)) (now (buffer .entry)) r (now (left .exit)) (now (buffer .exit)) ⌝ }
+    requires { ⌜ Sound settings x × (x .slot .0 < 2 ^ 40) × (64 ≤ length (now ends)) × Meets settings x (now ends) place (now buffer) ⌝ }
+    ensures { λ r. ⌜ Stepped settings (now (rows .entry)) place x (now (ends .entry)) (now (buffer .entry)) r (now (ends .exit)) (now (buffer .exit)) ⌝ }
 {
     let n = settings.nodes;
     let this = x.slot;
@@ -219,7 +191,7 @@ pub fn slot(
         listening: x.listening,
         flooding: x.flooding,
     };
-    let awake = advance(left, n, settings.repeats as u64, before, tried.reached);
+    let awake = advance(ends, place, before, tried.reached);
     Flood {
         listening: awake.listening,
         flooding: awake.flooding,

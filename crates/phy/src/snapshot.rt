@@ -2,8 +2,7 @@
 // counted beyond that.
 use network::units::Slot;
 ghost use mathlib.Core.Path.{_≡_};
-ghost use mathlib.Core.List.{[], _∷_};
-ghost use Prim.Native.Nat.{ℕ, suc, _*_, _^_, _≤_, _<_};
+ghost use Prim.Native.Nat.{suc, _*_, _^_, _≤_, _<_};
 ghost use Rattle.phy.specs.Slot.{store, takeWhile};
 ghost use Rattle.phy.specs.View.{shotOf, shotsOf};
 

@@ -11,12 +11,11 @@ use lib.Dec.{eqb}
 use lib.ListN.{length, getD, set, take, length-set}
 use lib.Seq.{getD-take, getD-set-same, getD-set-other, take-set-le}
 use borrow.Author.Tests.{eq-eqb, ne-eqb}
-use Rattle.random.specs.Table.{tabulate}
 use Rattle.network.specs.Graph.{has, count}
 use Rattle.network.proofs.Sets.{and-both, count-le, count-lt}
 use Rattle.random.proofs.Tables.{tabulate-cong, tabulate-snoc}
 use Rattle.phy.specs.Slot.{among}
-use Rattle.phy.proofs.Attempts.{among-more}
+use Rattle.phy.proofs.Attempts.{among-more, among-skip}
 use Rattle.phy.proofs.Masks.{has-and, or-shifted-bit, has-insert}
 use Rattle.pipeline.specs.declared.records.Recorded.{Recorded}
 use Rattle.pipeline.specs.Round.{Record, recorded, recordAll}
@@ -187,16 +186,15 @@ files-then {end} {ts} {us} {x} {y} {z} {l} {m} {n} f g =
       starts = g .starts ∙ f .starts;
     }
 
-pub files-at : {end i n : ℕ} (f : ℕ → Bool) {x y : Recorded} {l m : List ℕ} → i ≡ n → Files end (among i f) x l y m → Files end (among n f) x l y m
-files-at {end} {i} {n} f {x} {y} {l} {m} e = subst (λ (k : ℕ). Files end (among k f) x l y m) e
+-- no number from i to below n has f
+pub files-skip : {end i n : ℕ} (f : ℕ → Bool) {x y : Recorded} {l m : List ℕ} → i ≤ n → ((k : ℕ) → i ≤ k → k < n → f k ≡ false) → Files end (among i f) x l y m
+    → Files end (among n f) x l y m
+files-skip {end} {i} {n} f {x} {y} {l} {m} h none = subst⁻¹ (λ (ts : List ℕ). Files end ts x l y m) (among-skip i n f h none)
 
-pub files-as : {end : ℕ} {ts : List ℕ} {x y y' : Recorded} {l m m' : List ℕ} → m' ≡ m → y' ≡ y → Files end ts x l y m → Files end ts x l y' m'
-files-as {end} {ts} {x} {y} {y'} {l} {m} {m'} e q s = subst⁻¹ (λ (k : List ℕ). Files end ts x l y' k) e (subst⁻¹ (λ (z : Recorded). Files end ts x l z m) q s)
-
--- one number more is looked at
-pub files-more : {end k : ℕ} (f : ℕ → Bool) (b : Bool) {x y z : Recorded} {l m n : List ℕ} → f k ≡ b → Files end (among k f) x l y m → Files end (cond b (k ∷ []) []) y m z n
+-- one number more has f
+pub files-more : {end k : ℕ} (f : ℕ → Bool) {x y z : Recorded} {l m n : List ℕ} → f k ≡ true → Files end (among k f) x l y m → Files end (k ∷ []) y m z n
     → Files end (among (k + 1) f) x l z n
-files-more {end} {k} f b {x} {y} {z} {l} {m} {n} e s t = subst (λ (ts : List ℕ). Files end ts x l z n) (among-more k f b e) (files-then s t)
+files-more {end} {k} f {x} {y} {z} {l} {m} {n} e s t = subst (λ (ts : List ℕ). Files end ts x l z n) (among-more k f true e) (files-then s t)
 
 -- the records, by what the starts, the terms and the records before them are
 pub files-records : {end : ℕ} {ts us : List ℕ} (ss : List ℕ) {x y : Recorded} {l m : List ℕ} {rs : List Record} → Files end ts x l y m → ts ≡ us → recordsOf (x .count) l ≡ rs

@@ -1,10 +1,10 @@
 -- What the nodes share between rounds: states by node, starts by term, and the terms that a commit answers. Assumes nothing.
 use Prim.Native.Nat.{ℕ, zero, suc, _+_, _*_, _≤_, _<_}
-use mathlib.Core.Path.{_≡_, refl, sym, ap, ap₂, subst, subst⁻¹, _∙_}
+use mathlib.Core.Path.{_≡_, refl, sym, ap, ap₂, subst, _∙_}
 use mathlib.Core.Bool.{Bool, true, false, cond, not, _&&_}
 use mathlib.Core.List.{List, [], _∷_, _++_, append-nil}
 use mathlib.Core.Logic.{_⊎_, inl, inr, ⊎-elim}
-use native.Mathlib.Nat.{le-dest, le-refl, add-zero}
+use native.Mathlib.Nat.{le-refl, add-zero, eq-or-lt-of-le}
 use native.Mathlib.Numerals.{add-one}
 use native.Mathlib.Omega.{arith}
 use lib.Count.{ones}
@@ -18,7 +18,7 @@ use Rattle.phy.specs.Slot.{among}
 use Rattle.phy.specs.declared.packet.LastAccepted.{LastAccepted}
 use Rattle.phy.specs.declared.packet.Packet.{Packet}
 use Rattle.phy.specs.declared.packet.Piggyback.{Piggyback}
-use Rattle.phy.proofs.Attempts.{among-cong, among-stop}
+use Rattle.phy.proofs.Attempts.{among-cong, among-skip}
 use Rattle.protocol.specs.Paxos.{Entry, State, empty, logged, quorum, greatestQuorum, newlyBelow, newlyTo, termSet}
 use Rattle.protocol.specs.Turns.{counted, propose, announce, initiatorTurn, participantTurn}
 use Rattle.protocol.specs.View.{view, loggedSet, entryAt, logOf, Kept, Wrote, lastBelow, backBelow}
@@ -127,9 +127,7 @@ newly-has k t l = ap (λ (x : ℕ). eqb x 1) (newly-bit k t l) ∙ go (ltb t k) 
 -- so the list is the set's
 newly-list : (k : ℕ) (l : List Entry) → k ≤ 64 → among 64 (has (termSet (newlyBelow k l))) ≡ newlyBelow k l
 newly-list k l h =
-    let rest = le-dest h in
-    ap (λ (m : ℕ). among m (has (termSet (newlyBelow k l)))) (sym (rest .1))
-    ∙ among-stop k (rest .0) (has (termSet (newlyBelow k l))) (λ i b. newly-has k i l ∙ ap (λ (x : Bool). x && not (logged i l)) (le-ltb i k b))
+    among-skip k 64 (has (termSet (newlyBelow k l))) h (λ i b _. newly-has k i l ∙ ap (λ (x : Bool). x && not (logged i l)) (le-ltb i k b))
     ∙ among-cong k (has (termSet (newlyBelow k l))) (λ (t : ℕ). not (logged t l)) (λ t b. newly-has k t l ∙ ap (λ (x : Bool). x && not (logged t l)) (lt-ltb t k b))
     ∙ sym (newly-is k l)
 
@@ -238,9 +236,14 @@ module _ (packet : Packet) (slot part m : ℕ) (s : Shared) where
   unfolding turns
   turns-more e = ap (λ (k : ℕ). turns packet slot part k s) (add-one m) ∙ rw (turns, e)
 
-  pub turns-same : has part m ≡ false → turns packet slot part (m + 1) s ≡ turns packet slot part m s
-  unfolding turns
-  turns-same e = ap (λ (k : ℕ). turns packet slot part k s) (add-one m) ∙ rw (turns, e)
+-- no node from m to below t takes part
+pub turns-skip : (packet : Packet) (slot part m t : ℕ) (s : Shared) → m ≤ t → ((j : ℕ) → m ≤ j → j < t → has part j ≡ false) → turns packet slot part t s ≡ turns packet slot part m s
+unfolding turns
+turns-skip packet slot part m zero s l h = let e : 0 ≡ m = omega (arith, l) in ap (λ (k : ℕ). turns packet slot part k s) e
+turns-skip packet slot part m (suc t) s l h =
+    ⊎-elim (λ e. ap (λ (k : ℕ). turns packet slot part k s) (sym e))
+    (λ b. rw (turns, h t (omega (arith, b)) (omega arith)) (turns-skip packet slot part m t s (omega (arith, b)) (λ j u v. h j u (omega (arith, v)))))
+    (eq-or-lt-of-le l)
 
 -- ---- what holds between turns
 
@@ -249,10 +252,6 @@ cleared-sharing s = record { few = s .few; kept = s .kept; started = s .started;
 
 pub sharing-more : {n a m d : ℕ} {x : Carried} {b t : List ℕ} → m ≤ d → Sharing n a m x b t → Sharing n a d x b t
 sharing-more h s = record { few = s .few; kept = s .kept; started = s .started; filed = s .filed; back = s .back; nacks = s .nacks; piggybacks = omega (arith, s .piggybacks) }
-
-pub sharing-as : {n a m : ℕ} {x y : Carried} {b b' t t' : List ℕ} → b' ≡ b → t' ≡ t → y ≡ x → Sharing n a m x b t → Sharing n a m y b' t'
-sharing-as {n} {a} {m} {x} {y} {b} {b'} {t} {t'} e q p s =
-    subst⁻¹ (λ (z : List ℕ). Sharing n a m y z t') e (subst⁻¹ (λ (z : List ℕ). Sharing n a m y b z) q (subst⁻¹ (λ (z : Carried). Sharing n a m z b t) p s))
 
 -- the length of a node's log is the size of its set
 pub log-length : (n : ℕ) (b : List ℕ) (j : ℕ) → j < n → length (stateOf (statesOf n b) j .log) ≡ ones (loggedSet b (195 * j))

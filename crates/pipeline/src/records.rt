@@ -52,10 +52,11 @@ pub fn record_all(table: &mut [u64], x: Recorded, end: u64, newly: u64) -> Recor
         return x;
     }
     let mut r = x;
-    for t in 0..64 {
-        if (newly >> t) % 2 == 1 {
-            r = record_one(table, r, end, t);
-        }
+    let mut rest = newly;
+    while rest != 0 {
+        let t = u64::trailing_zeros(rest) as usize;
+        r = record_one(table, r, end, t);
+        rest -= 1u64 << t;
     }
     r
 }

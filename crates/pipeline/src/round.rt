@@ -154,10 +154,11 @@ pub fn process_round(
     ensures { λ r. ⌜ Processes n packet (slot .0) part x (now (states .entry)) (now (table .entry)) r (now (states .exit)) (now (table .exit)) ⌝ }
 {
     let mut y = cleared(x);
-    for j in 0..n {
-        if (part >> j) % 2 == 1 {
-            y = take_turn(y, states, table, packet, NodeId(j), slot);
-        }
+    let mut rest = part % (1u64 << n);
+    while rest != 0 {
+        let j = u64::trailing_zeros(rest) as usize;
+        y = take_turn(y, states, table, packet, NodeId(j), slot);
+        rest -= 1u64 << j;
     }
     y
 }

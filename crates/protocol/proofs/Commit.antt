@@ -95,21 +95,6 @@ unfolding newlyBelow
 newly-skip zero l h = refl
 newly-skip (suc k) l h = rw (newly-skip k l (λ t g. h t (omega arith)), h k (omega arith))
 
--- ---- searches, one step
-
-pub quorum-step : (t n : ℕ) (x : State) → 0 < t → greatestQuorum t n x ≡ cond (quorum n (x .pending (t - 1))) (LastAccepted.At (record { 0 = t - 1 })) (greatestQuorum (t - 1) n x)
-unfolding greatestQuorum
-quorum-step zero n x h = absurd (omega arith)
-quorum-step (suc k) n x h =
-    let e : suc k - 1 ≡ k = omega arith in
-    rw e
-
-pub gap-step : (t c : ℕ) (x : State) → t < c → gapIn (c - t) t x ≡ cond (held t x) (gapIn (c - (t + 1)) (t + 1) x) (Gap.At (record { 0 = t }))
-unfolding gapIn
-gap-step t c x h =
-    let e : c - t ≡ suc (c - (t + 1)) = omega arith in
-    rw (e, add-one)
-
 -- ---- what is newly committed, term by term
 
 newly-past : (k t : ℕ) (l : List Entry) → k ≤ t → termSet (newlyBelow k l) / 2 ^ t % 2 ≡ 0
@@ -174,3 +159,21 @@ gap-in-none (suc k) t x h = rw (h t (omega arith) (omega arith)) (gap-in-none k 
 pub gap-none : (c : ℕ) (x : State) → ((t : ℕ) → after (x .last) ≤ t → t < c → held t x ≡ true) → detectGap c x ≡ Gap.None
 unfolding detectGap
 gap-none c x h = gap-in-none (c - after (x .last)) (after (x .last)) x (λ u a b. h u a (omega arith))
+
+gap-in-is : (k t g : ℕ) (x : State) → t ≤ g → g < t + k → held g x ≡ false → ((u : ℕ) → t ≤ u → u < g → held u x ≡ true) → gapIn k t x ≡ Gap.At (record { 0 = g })
+unfolding gapIn
+gap-in-is zero t g x l b e h = absurd (omega arith)
+gap-in-is (suc k) t g x l b e h = go (gap-in-is k (suc t) g x) (either (eqb t g))
+  where
+    go : (suc t ≤ g → g < suc t + k → held g x ≡ false → ((u : ℕ) → suc t ≤ u → u < g → held u x ≡ true) → gapIn k (suc t) x ≡ Gap.At (record { 0 = g })) →
+        (eqb t g ≡ true) ⊎ (eqb t g ≡ false) → cond (held t x) (gapIn k (suc t) x) (Gap.At (record { 0 = t })) ≡ Gap.At (record { 0 = g })
+    go ih (inl q) = rw (eqb-true t g q, e)
+    go ih (inr q) =
+        let lt : t < g = omega (arith, eqb-false t g q) in
+        rw (h t (omega arith) lt) (ih lt (omega arith) e (λ u a. h u (omega arith)))
+
+-- g is not held, and each term before it after last accepted is
+pub gap-is : (c g : ℕ) (x : State) → after (x .last) ≤ g → g < c → held g x ≡ false → ((t : ℕ) → after (x .last) ≤ t → t < g → held t x ≡ true) →
+    detectGap c x ≡ Gap.At (record { 0 = g })
+unfolding detectGap
+gap-is c g x l b e h = gap-in-is (c - after (x .last)) (after (x .last)) g x l (omega arith) e h

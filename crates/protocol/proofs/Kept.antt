@@ -15,6 +15,8 @@ use lib.ListN.{length, getD, set, length-set}
 use lib.Pow.{pow-lt}
 use lib.Seq.{getD-set-same, getD-set-other}
 use Rattle.network.specs.Graph.{has}
+use Rattle.network.proofs.Sets.{has-or}
+use Rattle.network.proofs.Lowest.{has-less}
 use Rattle.random.specs.Table.{tabulate}
 use Rattle.random.proofs.Tables.{tabulate-cong, tabulate-snoc}
 use Rattle.phy.specs.declared.packet.Data.{Data}
@@ -23,7 +25,7 @@ use Rattle.protocol.specs.Paxos.{Entry, Pending, State, logged, held, is
 use Rattle.protocol.specs.View.{dataOf, lastOf, votesAt, dataAt, termAt, pendingSet, loggedSet, lastAt, entryAt, logOf, pendingOf, view, lastBelow, Distinct, Kept, Wrote}
 use Rattle.protocol.proofs.Places.{either, same-or}
 use Rattle.protocol.proofs.Logs.{logged-append, distinct-append}
-use Rattle.protocol.proofs.Words.{has-with, has-less, ones-with}
+use Rattle.protocol.proofs.Words.{has-with, ones-with}
 use Rattle.protocol.proofs.Frame as frame
 use Rattle.protocol.proofs.Frame.{logged-word, term-logged, logged-lt, pending-lt, log-same, wrote-set, wrote-then}
 
@@ -60,6 +62,16 @@ held-is {c} {b} {at} k t = rw (k .logged-is t) (ap (λ (x : Bool). has (loggedSe
     go : (x : Bool) → isSome (cond x (some (record { votes = votesAt b at t; payload = dataAt b at t })) none) ≡ x
     go true = refl
     go false = refl
+
+-- that is, in their union
+pub held-in : {c : ℕ} {b : List ℕ} {at : ℕ} → Kept c b at → (t : ℕ) → held t (view b at) ≡ has (bitOr (pendingSet b at) (loggedSet b at)) t
+held-in {c} {b} {at} k t = held-is k t ∙ or-comm (has (loggedSet b at) t) (has (pendingSet b at) t) ∙ sym (has-or (pendingSet b at) (loggedSet b at) t)
+  where
+    or-comm : (x y : Bool) → (x || y) ≡ (y || x)
+    or-comm true true = refl
+    or-comm true false = refl
+    or-comm false true = refl
+    or-comm false false = refl
 
 -- a pending term is not logged
 pub not-logged : {c : ℕ} {b : List ℕ} {at : ℕ} → Kept c b at → (t : ℕ) → has (pendingSet b at) t ≡ true → has (loggedSet b at) t ≡ false

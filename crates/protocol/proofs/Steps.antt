@@ -8,20 +8,21 @@ use mathlib.Core.Logic.{_⊎_, inl, inr}
 use mathlib.Core.Option.{Option, none, some}
 use mathlib.Core.Path.{_≡_, refl, sym, ap, ap₂, _∙_}
 use native.Mathlib.Omega.{arith}
-use borrow.Author.Tests.{lt-ltb, le-ltb, leb-true, leb-false, le-leb}
+use borrow.Author.Tests.{lt-ltb, le-ltb, leb-true, leb-false, le-leb, not-true}
 use lib.Bits.{bitAnd, bitOr}
 use lib.Count.{ones}
 use lib.Dec.{eqb, leb, ltb}
 use lib.Pow.{pow-pos, pow-mono}
 use Rattle.network.specs.Graph.{has, setOf}
-use Rattle.network.proofs.Sets.{set-ext}
+use Rattle.network.proofs.Sets.{set-ext, and-both}
+use Rattle.network.proofs.Lowest.{has-minus}
 use Rattle.phy.specs.declared.packet.Data.{Data}
 use Rattle.phy.specs.declared.packet.Piggyback.{Piggyback}
-use Rattle.protocol.specs.Paxos.{Entry, Pending, State, logged, held, hold, holdNew, isSome, put, entry, raise, after, commitTerm, commitBelow, commitUpTo, newlyUpTo, termSet, dataIn, reply, recovery}
+use Rattle.protocol.specs.Paxos.{Entry, Pending, State, logged, held, hold, holdNew, isSome, put, entry, raise, after, commitTerm, commitBelow, newlyUpTo, termSet, dataIn, reply, recovery}
 use Rattle.protocol.specs.View.{dataOf, codeOf, lastOf, votesAt, dataAt, pendingSet, loggedSet, lastAt, entryAt, logOf, pendingOf, view, dataBelow, Kept, Wrote, Next}
 use Rattle.protocol.proofs.Places.{either, same-or}
 use Rattle.protocol.proofs.Logs.{or-left, find-by-term}
-use Rattle.protocol.proofs.Words.{has-minus, has-reach, reach-is}
+use Rattle.protocol.proofs.Words.{has-reach, reach-is}
 use Rattle.protocol.proofs.Commit.{commit-next, commit-past, newly-bit, newly-lt, below-other}
 use Rattle.protocol.proofs.Frame.{wrote-none, wrote-then, wrote-set}
 use Rattle.protocol.proofs.Kept.{state-is, held-is, pending-none, last-raise, risen, risen-other, risen-log, risen-pending, risen-last, risen-kept, entered, entered-room, entered-wrote, entered-view, entered-pending, entered-last, entered-kept, heldAt, held-wrote, held-log, held-pending, held-last, held-kept}
@@ -124,7 +125,7 @@ newly-is {b} {at} u k h =
     bits t x (inl e) = rw (e, lt-ltb t (suc u) (omega (arith, leb-true t u e))) (bit x)
     bits t x (inr e) = rw (e, le-ltb t (suc u) (omega (arith, leb-false t u e)))
 
--- The terms below t are committed, and t is next.
+-- The terms below t are committed.
 module _
     (b₀ b : List ℕ) (at u t : ℕ) (k₀ : Kept 64 b₀ at) (lt : u < 64)
     (so-far : Next (λ c. u < c) at b₀ b (commitBelow t (view b₀ at))) where
@@ -132,20 +133,14 @@ module _
   turn-kept = so-far .kept 64 lt k₀
 
   -- t was logged at the start exactly if it is now
-  pub was-logged : has (loggedSet b at) t ≡ has (loggedSet b₀ at) t
+  was-logged : has (loggedSet b at) t ≡ has (loggedSet b₀ at) t
   was-logged =
       sym (turn-kept .logged-is t) ∙ ap (λ (x : State). logged t (x .log)) (so-far .is) ∙
       below-other t t (view b₀ at) (le-refl t) ∙ k₀ .logged-is t
 
-  pub turn-logged : has (loggedSet b₀ at) t ≡ true → Next (λ c. u < c) at b₀ b (commitBelow (t + 1) (view b₀ at))
-  unfolding commitTerm
-  turn-logged e =
-      let same : view b at ≡ commitTerm t (view b at) = rw (turn-kept .logged-is t, was-logged, e) in
-      record {
-        wrote = so-far .wrote;
-        kept = so-far .kept;
-        is = same ∙ ap (commitTerm t) (so-far .is) ∙ sym (commit-next t (view b₀ at));
-      }
+  pub turn-free : t ≤ u → has (newlySet u (loggedSet b₀ at)) t ≡ true → has (loggedSet b at) t ≡ false
+  turn-free h e =
+      was-logged ∙ not-true _ (and-both (leb t u) (not (has (loggedSet b₀ at) t)) (sym (has-newly u (loggedSet b₀ at) t (omega arith)) ∙ e) .1)
 
   pub turn-new : (r : List ℕ) → t ≤ u → Next (λ c. t < c) at b r (commitTerm t (view b at)) →
       Next (λ c. u < c) at b₀ r (commitBelow (t + 1) (view b₀ at))
@@ -156,12 +151,12 @@ module _
         is = e .is ∙ ap (commitTerm t) (so-far .is) ∙ sym (commit-next t (view b₀ at));
       }
 
-  -- no term is left
-  pub turn-end : t ≤ suc u → ((j : ℕ) → t ≤ j → has (newlySet u (loggedSet b₀ at)) j ≡ false) →
-      Next (λ c. u < c) at b₀ b (commitUpTo u (view b₀ at))
-  turn-end h none-left =
-      let d = suc u - t in
-      let e : t + d ≡ suc u = omega arith in
+  -- no term from t up to below v is new
+  pub turn-past : (v : ℕ) → t ≤ v → v ≤ suc u → ((j : ℕ) → t ≤ j → j < v → has (newlySet u (loggedSet b₀ at)) j ≡ false) →
+      Next (λ c. u < c) at b₀ b (commitBelow v (view b₀ at))
+  turn-past v from h none-new =
+      let d = v - t in
+      let e : t + d ≡ v = omega arith in
       record {
         wrote = so-far .wrote;
         kept = so-far .kept;
@@ -175,11 +170,11 @@ module _
       was-in true q = refl
       was-in false q = absurd (true≢false q)
 
-      in-log : (j : ℕ) → t ≤ j → j ≤ u → has (loggedSet b₀ at) j ≡ true
+      in-log : (j : ℕ) → t ≤ j → j < v → has (loggedSet b₀ at) j ≡ true
       in-log j g l =
           was-in (has (loggedSet b₀ at) j)
-          (ap (λ (x : Bool). x && not (has (loggedSet b₀ at) j)) (sym (le-leb j u l)) ∙
-          sym (has-newly u (loggedSet b₀ at) j (omega arith)) ∙ none-left j g)
+          (ap (λ (x : Bool). x && not (has (loggedSet b₀ at) j)) (sym (le-leb j u (omega arith))) ∙
+          sym (has-newly u (loggedSet b₀ at) j (omega arith)) ∙ none-new j g l)
 
 -- ---- a term becomes pending
 

@@ -1,20 +1,21 @@
 -- Sets of terms in a word, and what the code's operators do with them. Assumes nothing.
-use Prim.Native.Nat.{ℕ, zero, suc, _+_, _-_, _*_, _/_, _%_, _^_, _<_, _≤_, min}
-use mathlib.Core.Bool.{Bool, true, false, cond, not, _&&_, _||_, true≢false}
-use mathlib.Core.Logic.{_⊎_, inl, inr, ⊎-elim}
+use Prim.Native.Nat.{ℕ, zero, suc, _+_, _-_, _%_, _^_, _<_, _≤_}
+use mathlib.Core.Bool.{Bool, true, false, cond, _||_}
+use mathlib.Core.Logic.{_⊎_, inl, inr}
 use mathlib.Core.Path.{_≡_, refl, sym, ap, _∙_, subst}
-use native.Mathlib.Nat.{pow-suc, mod-lt, div-one, lt-of-lt-of-le}
+use native.Mathlib.Nat.{pow-suc, mod-lt, lt-of-lt-of-le}
 use native.Mathlib.Omega.{arith}
-use borrow.Author.Tests.{eqb-true, leb-true, leb-false, le-leb, lt-leb}
-use lib.Bits.{bitAnd, bitOr, and-step, and-le-l, or-lt}
+use borrow.Author.Tests.{leb-true, leb-false, le-leb, lt-leb}
+use lib.Bits.{bitOr, or-lt}
 use lib.Count.{ones}
-use lib.Dec.{eqb, leb, eqb·zero-suc, eqb·suc-zero, eqb·suc-suc}
+use lib.Dec.{eqb, leb}
 use lib.Pow.{pow-pos, pow-mono, pow-lt}
 use Rattle.network.specs.Graph.{has, setOf}
 use Rattle.network.proofs.Sets.{set-ext, has-or, has-out, has-low, has-setOf}
+use Rattle.network.proofs.Lowest.{no-bit-of}
 use Rattle.protocol.specs.Paxos.{size}
 use Rattle.protocol.proofs.Places.{either}
-use Rattle.protocol.proofs.Sets.{half-shift, vote-bit, union-or, size-ones, size-more}
+use Rattle.protocol.proofs.Sets.{vote-bit, union-or, size-ones, size-more}
 
 -- ---- one term
 
@@ -28,82 +29,6 @@ has-pow i j = ap (λ (x : ℕ). eqb x 1) (vote-bit i j) ∙ bit-is (eqb j i)
 
 pub has-with : (p t j : ℕ) → has (bitOr p (2 ^ t)) j ≡ (has p j || eqb j t)
 has-with p t j = has-or p (2 ^ t) j ∙ ap (λ (b : Bool). has p j || b) (has-pow t j)
-
--- a term of a set is a part of its number
-pub has-le : (t p : ℕ) → has p t ≡ true → 2 ^ t ≤ p
-has-le t p e =
-    ⊎-elim (λ w. leb-true (2 ^ t) p w) (λ w. absurd (true≢false (sym e ∙ has-out {n = t} (leb-false (2 ^ t) p w) t (omega arith)))) (either (leb (2 ^ t) p))
-
-bit-one : (x : ℕ) → eqb x 1 ≡ true → x ≡ 1
-bit-one x e = eqb-true x 1 e
-
-bit-zero : (x : ℕ) → x < 2 → eqb x 1 ≡ false → x ≡ 0
-bit-zero zero h e = refl
-bit-zero (suc zero) h e = absurd (true≢false e)
-bit-zero (suc (suc x)) h e = absurd (omega arith)
-
-pub bit-of : (p t : ℕ) → has p t ≡ true → p / 2 ^ t % 2 ≡ 1
-unfolding has
-bit-of p t e = bit-one (p / 2 ^ t % 2) e
-
-pub no-bit-of : (p t : ℕ) → has p t ≡ false → p / 2 ^ t % 2 ≡ 0
-unfolding has
-no-bit-of p t e = bit-zero (p / 2 ^ t % 2) (mod-lt (p / 2 ^ t) (omega arith)) e
-
--- ---- a set without one of its terms
-
-less-bit : (t j p : ℕ) → p / 2 ^ t % 2 ≡ 1 → 2 ^ t ≤ p → (p - 2 ^ t) / 2 ^ j % 2 ≡ cond (eqb j t) 0 (p / 2 ^ j % 2)
-less-bit zero zero p h g = omega arith
-less-bit zero (suc j) p h g =
-    let e : (p - 1) / 2 ≡ p / 2 = omega arith in
-    rw (eqb·suc-zero j, half-shift (p - 1) j, e, half-shift p j)
-less-bit (suc t) zero p h g =
-    rw (eqb·zero-suc t) (omega (arith, pow-suc 2 t))
-less-bit (suc t) (suc j) p h g =
-    let e : (p - 2 ^ suc t) / 2 ≡ p / 2 - 2 ^ t = omega (arith, pow-suc 2 t) in
-    let l : 2 ^ t ≤ p / 2 = omega (arith, pow-suc 2 t) in
-    rw (eqb·suc-suc j t, half-shift (p - 2 ^ suc t) j, e, half-shift p j)
-    (less-bit t j (p / 2) (ap (λ (x : ℕ). x % 2) (sym (half-shift p t)) ∙ h) l)
-
-pub has-less : (p t j : ℕ) → has p t ≡ true → has (p - 2 ^ t) j ≡ cond (eqb j t) false (has p j)
-unfolding has
-has-less p t j e =
-    ap (λ (x : ℕ). eqb x 1) (less-bit t j p (bit-of p t e) (has-le t p e)) ∙ go (eqb j t)
-  where
-    go : (b : Bool) → eqb (cond b 0 (p / 2 ^ j % 2)) 1 ≡ cond b false (eqb (p / 2 ^ j % 2) 1)
-    go true = refl
-    go false = refl
-
--- ---- a set without the terms of another
-
-halves : (a q y : ℕ) → q ≤ a / 2 → y < 2 →
-    ((a - (q * 2 + min (a % 2) y)) / 2 ≡ a / 2 - q) × ((a - (q * 2 + min (a % 2) y)) % 2 ≡ a % 2 - min (a % 2) y)
-halves a q zero h g = (omega arith, omega arith)
-halves a q (suc zero) h g = (omega arith, omega arith)
-halves a q (suc (suc y)) h g = absurd (omega arith)
-
-minus-bit : (j a b : ℕ) → (a - bitAnd a b) / 2 ^ j % 2 ≡ a / 2 ^ j % 2 - min (a / 2 ^ j % 2) (b / 2 ^ j % 2)
-minus-bit zero a b =
-    rw (div-one, div-one, div-one, and-step a b) (halves a (bitAnd (a / 2) (b / 2)) (b % 2) (and-le-l (a / 2) (b / 2)) (mod-lt b (omega arith)) .1)
-minus-bit (suc j) a b =
-    let e : (a - bitAnd a b) / 2 ≡ a / 2 - bitAnd (a / 2) (b / 2) =
-    rw (and-step a b) (halves a (bitAnd (a / 2) (b / 2)) (b % 2) (and-le-l (a / 2) (b / 2)) (mod-lt b (omega arith)) .0) in
-    rw (half-shift (a - bitAnd a b) j, e, half-shift a j, half-shift b j) (minus-bit j (a / 2) (b / 2))
-
-pub has-minus : (a b j : ℕ) → has (a - bitAnd a b) j ≡ (has a j && not (has b j))
-unfolding has
-has-minus a b j =
-    ap (λ (x : ℕ). eqb x 1) (minus-bit j a b) ∙
-    digit (a / 2 ^ j % 2) (b / 2 ^ j % 2) (mod-lt (a / 2 ^ j) (omega arith)) (mod-lt (b / 2 ^ j) (omega arith))
-  where
-    digit : (x y : ℕ) → x < 2 → y < 2 → eqb (x - min x y) 1 ≡ (eqb x 1 && not (eqb y 1))
-    digit zero zero hx hy = refl
-    digit zero (suc zero) hx hy = refl
-    digit zero (suc (suc y)) hx hy = absurd (omega arith)
-    digit (suc zero) zero hx hy = refl
-    digit (suc zero) (suc zero) hx hy = refl
-    digit (suc zero) (suc (suc y)) hx hy = absurd (omega arith)
-    digit (suc (suc x)) y hx hy = absurd (omega arith)
 
 -- ---- how many terms
 

@@ -8,7 +8,7 @@ use phy::packet::LastAccepted;
 use phy::packet::Piggyback;
 ghost use mathlib.Core.Path.{_≡_};
 ghost use mathlib.Core.Bool.{false};
-ghost use Prim.Native.Nat.{ℕ, suc, _+_, _≤_, _<_, max};
+ghost use Prim.Native.Nat.{ℕ, _+_, _≤_, _<_, max};
 ghost use lib.Dec.{leb};
 ghost use Rattle.network.specs.Graph.{has, setOf};
 ghost use Rattle.protocol.specs.Paxos.{union, size, majority, held, hold, holdNew, mergeVotesUpTo, greatestQuorum, commitTerm, commitUpTo, newlyUpTo, commitTo, newlyTo, detectGap, recovery};
@@ -80,27 +80,35 @@ fn is_held(states: &[u64], at: usize, term: Term) -> bool
     (all >> t) % 2 == 1
 }
 
-// Merges votes into all pending terms up to the given one.
+// Merges votes into all pending terms up to the given one. Votes of a term that is not pending count
+// for nothing, so those between the lowest and the highest are written too, in a plain loop.
 pub fn merge_votes_up_to(states: &mut [u64], at: usize, up_to_term: Term, bitmap: u64)
     requires { ⌜ Kept 64 (now states) at ⌝ }
     ensures { λ _. ⌜ Next (λ c. Unit {0}) at (now (states .entry)) (now (states .exit)) (mergeVotesUpTo («up_to_term» .0) bitmap (view (now (states .entry)) at)) ⌝ }
 {
     let reach = up_to(up_to_term.0);
-    let mut rest = states[at + 192] & reach;
-    let mut t = 0usize;
-    while rest != 0 {
-        if rest % 2 == 1 {
-            states[at + t] = joined(states[at + t], bitmap);
-        }
-        rest /= 2;
-        t += 1;
+    let rest = states[at + 192] & reach;
+    if rest == 0 {
+        return;
+    }
+    let first = u64::trailing_zeros(rest) as usize;
+    let end = 64 - u64::leading_zeros(rest) as usize;
+    for t in first..end {
+        states[at + t] = joined(states[at + t], bitmap);
     }
 }
 
-// Whether so many votes are a majority of n nodes.
+// Whether so many votes are a majority of n nodes. A vote of one node alone is not counted: a count
+// takes longer than this test.
 fn is_majority(votes: u64, n: usize) -> bool
     ensures { λ r. ⌜ r ≡ leb (majority n) (size votes) ⌝ }
 {
+    if votes == 0 {
+        return false;
+    }
+    if votes & (votes - 1) == 0 {
+        return n < 2;
+    }
     let k = u64::count_ones(votes) as usize;
     n / 2 + 1 <= k
 }
@@ -110,15 +118,13 @@ pub fn greatest_quorum(states: &[u64], at: usize, n: usize) -> LastAccepted
     requires { ⌜ Kept 64 (now states) at ⌝ }
     ensures { λ r. ⌜ r ≡ greatestQuorum 64 n (view (now (states .entry)) at) ⌝ }
 {
-    let pending = states[at + 192];
-    let mut t: usize = 64;
-    while 0 < t {
-        t -= 1;
-        if (pending >> t) % 2 == 1 {
-            if is_majority(states[at + t], n) {
-                return LastAccepted::At(Term(t as u64));
-            }
+    let mut rest = states[at + 192];
+    while rest != 0 {
+        let t = 63 - u64::leading_zeros(rest) as usize;
+        if is_majority(states[at + t], n) {
+            return LastAccepted::At(Term(t as u64));
         }
+        rest -= 1u64 << t;
     }
     LastAccepted::None
 }
@@ -154,13 +160,10 @@ pub fn commit_up_to(states: &mut [u64], at: usize, last: Term) -> u64
     let reach = up_to(last.0);
     let newly = reach - (reach & states[at + 193]);
     let mut rest = newly;
-    let mut t = 0u64;
     while rest != 0 {
-        if rest % 2 == 1 {
-            commit_term(states, at, Term(t));
-        }
-        rest /= 2;
-        t += 1;
+        let t = u64::trailing_zeros(rest) as u64;
+        commit_term(states, at, Term(t));
+        rest -= 1u64 << t;
     }
     newly
 }
@@ -182,14 +185,16 @@ pub fn detect_gap(states: &[u64], at: usize, up_to_term: Term) -> Gap
     ensures { λ r. ⌜ r ≡ detectGap («up_to_term» .0) (view (now (states .entry)) at) ⌝ }
 {
     let end = up_to_term.0;
-    let mut t = states[at + 194];
-    while t < end {
-        if !is_held(states, at, Term(t)) {
-            return Gap::At(Term(t));
-        }
-        t += 1;
+    let last = states[at + 194];
+    if end <= last {
+        return Gap::None;
     }
-    Gap::None
+    let free = !(states[at + 192] | states[at + 193]) >> last;
+    let t = last + u64::trailing_zeros(free) as u64;
+    if end <= t {
+        return Gap::None;
+    }
+    Gap::At(Term(t))
 }
 
 // A term that is neither logged nor pending becomes pending.

@@ -1,6 +1,6 @@
 -- The draw's fraction m / 2^53 is exact as an f64, and one multiplication gives it. Assumes nothing.
-use Prim.Native.Nat.{ℕ, zero, suc, _+_, _*_, _/_, _^_, _≤_, _<_}
-use mathlib.Core.Path.{_≡_, refl, sym, ap, ap₂, _∙_}
+use Prim.Native.Nat.{ℕ, zero, suc, _/_, _^_, _≤_, _<_}
+use mathlib.Core.Path.{_≡_, refl, sym, ap, _∙_}
 use mathlib.Core.Bool.{false}
 use native.Mathlib.Nat.{mul-assoc, mul-one, lt-of-lt-of-le, zero-lt-suc}
 use native.Mathlib.Omega.{arith}

@@ -7,8 +7,8 @@ use native.Mathlib.Nat.{le-of-suc-le-suc}
 use native.Mathlib.Numerals.{add-one}
 use native.Mathlib.Omega.{arith}
 use borrow.Author.Count.{below-more}
-use lib.ListN.{length, getD, set, take, length-set, length-take}
-use lib.Seq.{ext-getD, getD-set-same, getD-set-other, getD-take, length-take-le}
+use lib.ListN.{length, getD, set, length-set}
+use lib.Seq.{ext-getD, getD-set-same, getD-set-other}
 use Rattle.random.specs.Table.{tabulate}
 
 pub length-tabulate : {A : Type 0} (n : ℕ) (f : ℕ → A) → length (tabulate n f) ≡ n
@@ -65,27 +65,3 @@ filled-more {f} {n} {l} {i} v d h e =
 
 pub filled-all : {f : ℕ → ℕ} {n : ℕ} {l : List ℕ} {i : ℕ} → Filled f n l i → n ≤ i → l ≡ tabulate n f
 filled-all {f} {n} {l} d h = is-tabulate n f 0 l (d .size) (λ k b. d .places k (omega arith))
-
--- each of the first n elements of a list is being changed by f, and i of them are done
-pub record Changed {A : Type 0} (d : A) (f : ℕ → A → A) (n : ℕ) (l₀ l : List A) (i : ℕ) : Type 0 where
-  pub within : i ≤ n
-  pub size : length l ≡ length l₀
-  pub done : (k : ℕ) → k < i → getD l k d ≡ f k (getD l₀ k d)
-  pub left : (k : ℕ) → i ≤ k → getD l k d ≡ getD l₀ k d
-
-pub changed-none : {A : Type 0} (d : A) (f : ℕ → A → A) (n : ℕ) (l : List A) → Changed d f n l l 0
-changed-none d f n l = record { within = omega arith; size = refl; done = λ k h. absurd (omega arith); left = λ k h. refl }
-
-pub changed-more : {A : Type 0} {d : A} {f : ℕ → A → A} {n : ℕ} {l₀ l : List A} {i : ℕ} (v : A) → Changed d f n l₀ l i → i < n → i < length l₀ → v ≡ f i (getD l i d) → Changed d f n l₀ (set l i v) (i + 1)
-changed-more {A} {d} {f} {n} {l₀} {l} {i} v c h r e =
-    record {
-      within = omega arith;
-      size = length-set l i v ∙ c .size;
-      done = below-more _ i (λ k b. getD-set-other l i k v d (λ p. omega (arith, p)) ∙ c .done k b) (getD-set-same l i v d (omega (arith, c .size)) ∙ e ∙ ap (f i) (c .left i (omega arith)));
-      left = λ k b. getD-set-other l i k v d (λ p. omega (arith, p)) ∙ c .left k (omega arith);
-    }
-
-pub changed-all : {A : Type 0} {d : A} {f : ℕ → A → A} {n : ℕ} {l₀ l : List A} {i : ℕ} → Changed d f n l₀ l i → n ≤ i → n ≤ length l₀ → take n l ≡ tabulate n (λ (k : ℕ). f k (getD (take n l₀) k d))
-changed-all {A} {d} {f} {n} {l₀} {l} c h r =
-    is-tabulate n _ d (take n l) (length-take-le n l (omega (arith, c .size)))
-    (λ k b. getD-take n l k d b ∙ c .done k (omega arith) ∙ ap (f k) (sym (getD-take n l₀ k d b)))

@@ -1,8 +1,7 @@
 -- Products and rotations of words. Assumes nothing.
-use Prim.Native.Nat.{ℕ, zero, suc, _+_, _-_, _*_, _/_, _%_, _^_, _≤_, _<_}
-use mathlib.Core.Path.{_≡_, refl, sym, ap, ap₂, subst, _∙_}
-use native.Mathlib.Nat.{add-assoc, add-comm, add-left-comm, add-zero, mul-assoc, mul-comm, mul-left-comm, mul-add, add-mul, mul-one, mod-lt, div-add-mod', mul-add-mod-self-right, mul-mod-left, mod-eq-of-lt, mul-div-cancel, add-mul-div-right, sub-add-cancel, le-of-lt, add-sub-of-le, lt-of-lt-of-le, le-of-eq, mul-lt-mul-of-pos-right, mul-le-mul-left, lt-of-le-of-lt}
-use native.Mathlib.Omega.{arith}
+use Prim.Native.Nat.{ℕ, _+_, _-_, _*_, _/_, _%_, _^_, _≤_, _<_}
+use mathlib.Core.Path.{_≡_, sym, ap, ap₂, subst, _∙_}
+use native.Mathlib.Nat.{add-assoc, add-comm, add-left-comm, add-zero, mul-assoc, mul-comm, mul-left-comm, mul-add, add-mul, mul-one, mod-lt, div-add-mod', mul-add-mod-self-right, mul-mod-left, mod-eq-of-lt, add-mul-div-right, sub-add-cancel, le-of-lt, add-sub-of-le, lt-of-lt-of-le, le-of-eq, mul-lt-mul-of-pos-right, mul-le-mul-left, lt-of-le-of-lt}
 use lib.Arith.{digits-lt}
 use lib.Pow.{pow-pos, pow-add, shr-lt, shl-shr, mod-pow-add}
 use lib.Bits.{bitOr, or-shifted}

@@ -1,7 +1,6 @@
 -- The draws of a seed (document 01, "Units and draws").
-use Prim.Native.Nat.{ℕ, _+_, _*_, _/_, _%_, _^_, _≤_, _<_}
+use Prim.Native.Nat.{ℕ, _+_, _*_, _/_, _%_, _^_, _≤_}
 use mathlib.Core.Path.{_≡_}
-use mathlib.Core.List.{List}
 use lib.ListN.{getD}
 use Rattle.random.specs.Seed.{keyOf}
 use Rattle.random.specs.ChaCha.{streamBlock}

@@ -1,6 +1,6 @@
 -- Fraction and reception (document 01, "Units and draws").
 use Prim.Native.Nat.{ℕ, _/_, _^_}
-use mathlib.Core.Bool.{Bool, true, false, _||_}
+use mathlib.Core.Bool.{Bool, false, _||_}
 use mathlib.Core.Logic.{_⊎_}
 use lib.IntN.{pos}
 use lib.Dec.{T}

@@ -1,7 +1,7 @@
 -- A run before its first round: every node listens, and nothing is held, logged or recorded. Assumes nothing.
 use Prim.Native.Nat.{ℕ, zero, suc, _+_, _*_, _^_, _≤_, _<_}
 use mathlib.Core.Path.{_≡_, refl, sym, ap, subst, subst⁻¹, _∙_}
-use mathlib.Core.Bool.{Bool, true, false, cond}
+use mathlib.Core.Bool.{Bool, false, cond}
 use mathlib.Core.List.{List, []}
 use mathlib.Core.Logic.{inr}
 use native.Mathlib.Nat.{zero-mul, le-refl}
@@ -11,7 +11,6 @@ use Rattle.random.specs.Table.{tabulate}
 use Rattle.network.specs.Graph.{has, setOf}
 use Rattle.random.specs.Draws.{Before}
 use Rattle.random.specs.declared.draws.DrawSource.{DrawSource}
-use Rattle.network.proofs.Sets.{never}
 use Rattle.random.proofs.Tables.{is-tabulate}
 use Rattle.phy.specs.declared.node.Node.{Node}
 use Rattle.phy.specs.declared.packet.Piggyback.{Piggyback}
@@ -63,12 +62,11 @@ module _ (n seed listening : ℕ) (source : DrawSource) (few : n ≤ 32) (all : 
         source = source;
       }
 
-  stands : (b : List ℕ) → Stands n newFlood (zeros .left) (zeros .held) b (record { nodes = replicate n new; attempts = 0; successes = 0; slot = 0; shots = record { next = 0; count = 0; buffer = b } })
+  stands : (b : List ℕ) → Stands n newFlood (zeros .held) b (record { nodes = replicate n new; attempts = 0; successes = 0; slot = 0; shots = record { next = 0; count = 0; buffer = b } })
   stands b =
       record {
         listening = omega (arith, all, full-set n (λ (j : ℕ). isListening (at (replicate n new) j)) (λ j h. ap isListening (new-at n j h)));
         flooding = sym (empty-set n (λ (j : ℕ). isFlooding (at (replicate n new) j)) (λ j h. ap isFlooding (new-at n j h)));
-        left = λ j h f. never f (ap isFlooding (new-at n j h));
         held = λ j h. subst (λ (v : Node). Holding (zeros .held) 0 j (v .payload)) (sym (new-at n j h)) (has-zero j);
         holders = omega arith;
         listens = sym (sum-new (λ (v : Node). v .«slots_listen») n n refl (le-refl n));
@@ -84,8 +82,8 @@ module _ (n seed listening : ℕ) (source : DrawSource) (few : n ≤ 32) (all : 
   pub new-flood : NewFlood n seed newFlood
   new-flood =
       record {
-        stands = λ g b e. subst⁻¹ (λ (m : ℕ). Stands n newFlood (zeros .left) (zeros .held) b (record { nodes = replicate m new; attempts = 0; successes = 0; slot = 0; shots = record { next = 0; count = 0; buffer = b } })) e (stands b);
-        sound = λ g e i. record { few = omega (arith, e); interval = i; attempts = omega arith; successes = omega arith; next = sym (zero-mul (g .interval)) };
+        stands = λ g b e. subst⁻¹ (λ (m : ℕ). Stands n newFlood (zeros .held) b (record { nodes = replicate m new; attempts = 0; successes = 0; slot = 0; shots = record { next = 0; count = 0; buffer = b } })) e (stands b);
+        sound = λ g e low high i. record { few = omega (arith, e); repeats = (low, high); interval = i; attempts = omega arith; successes = omega arith; next = sym (zero-mul (g .interval)) };
         ready = λ rate. inr before;
         first = refl;
         untried = refl;

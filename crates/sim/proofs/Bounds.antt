@@ -1,5 +1,5 @@
 -- Bounds on the counts of every accepted run. Assumes nothing.
-use Prim.Native.Nat.{ℕ, zero, suc, _+_, _-_, _*_, _/_, _^_, _≤_, _<_, zero-le}
+use Prim.Native.Nat.{ℕ, zero, suc, _+_, _-_, _*_, _/_, _≤_, _<_, zero-le}
 use mathlib.Core.List.{List, [], _∷_}
 use mathlib.Core.Path.{_≡_, refl, sym, ap, _∙_, subst}
 use native.Mathlib.Nat.{mul-le-mul, mul-le-mul-right, div-le-of-le-mul}
@@ -8,7 +8,7 @@ use lib.ListN.{length, replicate, length-append, getD-replicate}
 use Rattle.network.proofs.Sets.{count-le}
 use Rattle.phy.specs.declared.node.Node.{Node}
 use Rattle.phy.specs.Node.{new, total}
-use Rattle.phy.specs.Slot.{Setup, at, sumOf}
+use Rattle.phy.specs.Slot.{Setup, at}
 use Rattle.phy.specs.Round.{Flooded, round}
 use Rattle.phy.proofs.Counts.{all-slots, round-most, counted-round}
 use Rattle.phy.proofs.Due.{Due, due-none, due-round, due-count}

@@ -1,19 +1,19 @@
 -- The questions in order, and the runs that they let pass. Assumes nothing.
-use Prim.Native.Nat.{ℕ, _-_, _≤_, _<_}
+use Prim.Native.Nat.{ℕ, _-_, _≤_}
 use mathlib.Core.Path.{_≡_, refl, sym, ap, ap₂, _∙_, subst}
-use mathlib.Core.Bool.{Bool, true, false, not, cond, _&&_, _||_}
+use mathlib.Core.Bool.{Bool, true, false, not, _&&_, _||_}
 use mathlib.Core.List.{List, [], _∷_, _++_}
 use mathlib.Core.Logic.{_⊎_, inl, inr, ⊎-elim}
 use mathlib.Core.Option.{Option, none, some}
-use native.Mathlib.Nat.{le-of-eq, le-trans, lt-of-lt-of-le}
+use native.Mathlib.Nat.{le-trans, lt-of-lt-of-le}
 use native.Mathlib.Omega.{arith}
 use borrow.Author.Tests.{leb-true, le-leb}
 use lib.Dec.{eqb, leb}
-use lib.ListN.{length, getD, take, drop, replicate, length-append, List·getD-append}
-use lib.Seq.{sets, take-append-le}
+use lib.ListN.{length, drop, replicate, length-append, List·getD-append}
+use lib.Seq.{take-append-le}
 use Rattle.network.specs.Graph.{maxNodes, widened, Checked}
 use Rattle.network.specs.Distance.{diameter, measuredAs, measured}
-use Rattle.network.specs.Questions.{within, firstNo, nodesOf, question2, question4}
+use Rattle.network.specs.Questions.{within, firstNo, nodesOf}
 use Rattle.network.specs.Topology.{topologyOf, topologyRows, withRows, answered, builtRows, rowsRefusal as topologyRowsRefusal}
 use Rattle.network.specs.declared.distance.Measured.{Measured}
 use Rattle.network.specs.declared.distance.Measured.the-variants.{Links, Refused as Measured·Refused}
@@ -22,7 +22,7 @@ use Rattle.network.specs.declared.topology.Built.{Built}
 use Rattle.network.specs.declared.topology.Built.the-variants.{Nodes, Refused as Built·Refused}
 use Rattle.network.proofs.Sets.{and-both}
 use Rattle.network.proofs.Within.{within-both}
-use Rattle.network.proofs.Rows.{getD-widened, length-widened}
+use Rattle.network.proofs.Rows.{getD-widened}
 use Rattle.network.proofs.Checks.{question4-checked, checked-question4, agree-checked, diameter-agree}
 use Rattle.network.proofs.Distances.{diameter-lt}
 use Rattle.network.proofs.Topologies.{rows-checked}
@@ -30,9 +30,9 @@ use Rattle.text.specs.declared.listing.Summary.{Summary}
 use Rattle.sim.specs.declared.config.Config.{Config}
 use Rattle.sim.specs.declared.config.Answer.{Answer}
 use Rattle.sim.specs.declared.config.Answer.the-variants.{Ran, Refused}
-use Rattle.sim.specs.Questions.{slotsAllowed, rateAllowed, runQuestions, rowsQuestions, topologyQuestions, rowsRefusal, topologyRefusal}
+use Rattle.sim.specs.Questions.{slotsAllowed, runQuestions, rowsQuestions, topologyQuestions, rowsRefusal, topologyRefusal}
 use Rattle.sim.specs.Run.{Given, run}
-use Rattle.sim.specs.Entries.{Outcome, logsWith, numbersOf, ranWith, givenOf, outcomeOf, runOfRows, runOfTopology}
+use Rattle.sim.specs.Entries.{ranWith, givenOf, outcomeOf, runOfRows, runOfTopology}
 use Rattle.sim.specs.View.{givenAs, Accepted, Finishes}
 use Rattle.sim.specs.Answers.{outcome}
 use Rattle.sim.specs.Printed.{configOf, answerText, outcomeText, lineText}

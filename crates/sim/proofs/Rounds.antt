@@ -1,5 +1,5 @@
 -- A round of the code beside a round of the definitions: bounds, and settings that differ in the progress alone. Assumes nothing.
-use Prim.Native.Nat.{ℕ, suc, _+_, _*_, _≤_, _<_, max}
+use Prim.Native.Nat.{ℕ, _+_, _*_, _≤_, _<_}
 use mathlib.Core.Path.{_≡_, subst}
 use mathlib.Core.Bool.{true}
 use mathlib.Core.List.{List}
@@ -28,7 +28,7 @@ limit-few RoundSlots.Absent d repeats ok short few =
 
 pub sound-as : (n : ℕ) (c : Config) (p q : ℕ) {x : Flood} → Sound (settingsOf n c p) x → Sound (settingsOf n c q) x
 sound-as n c p q s =
-    record { few = s .few; interval = s .interval; attempts = s .attempts; successes = s .successes; next = s .next }
+    record { few = s .few; repeats = s .repeats; interval = s .interval; attempts = s .attempts; successes = s .successes; next = s .next }
 
 -- no more nodes are covered than there are
 pub covered-few : (g : Setup) (limit initiator : ℕ) (packet : Packet) (s : Standing) → round g limit initiator packet s .covered ≤ g .nodes
@@ -36,8 +36,8 @@ unfolding round coverage
 covered-few g limit initiator packet s = count-le (g .nodes) _
 
 -- the code stands where an equal round leads
-pub stands-as : {n : ℕ} {x : Flood} {l h b : List ℕ} {f g : Flooded} → f ≡ g → Stands n x l h b (f .after) → Stands n x l h b (g .after)
-stands-as {n} {x} {l} {h} {b} e = subst (λ (y : Flooded). Stands n x l h b (y .after)) e
+pub stands-as : {n : ℕ} {x : Flood} {h b : List ℕ} {f g : Flooded} → f ≡ g → Stands n x h b (f .after) → Stands n x h b (g .after)
+stands-as {n} {x} {h} {b} e = subst (λ (y : Flooded). Stands n x h b (y .after)) e
 
 -- a round more was run
 pub rounds-more : (g : Given) (k : ℕ) (r : Running) → length (runRound g k r .rounds) ≡ length (r .rounds) + 1

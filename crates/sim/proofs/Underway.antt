@@ -1,7 +1,7 @@
 -- A run of the code between rounds: what it shows of the run of the definitions, its first round and its ends. Assumes nothing.
 use Prim.Native.Nat.{ℕ, suc, _+_, _-_, _*_, _≤_, _<_}
 use mathlib.Core.Path.{_≡_, refl, sym, ap, subst, subst⁻¹, _∙_}
-use mathlib.Core.Bool.{Bool, true, false, cond, _&&_}
+use mathlib.Core.Bool.{Bool, false, cond, _&&_}
 use mathlib.Core.List.{List}
 use native.Mathlib.Nat.{le-refl}
 use native.Mathlib.Numerals.{add-one}
@@ -69,12 +69,11 @@ underway-new rows n d c b x t ok new e =
         shared = new .shared g b refl;
         covered = new .covered;
         rounds = refl;
-        sound = new .flood .sound (settingsOf n c 0) refl (ok .interval);
+        sound = new .flood .sound (settingsOf n c 0) refl (ok .repeats-low) (ok .repeats-high) (ok .interval);
         sharing = new .sharing;
         ready = subst⁻¹ (λ (k : ℕ). Ready (c .«loss_rate») (c .seed) k (x .flood .source)) (new .flood .untried) (new .flood .ready (c .«loss_rate»));
         slots = omega (arith, new .flood .first);
         few = omega (arith, new .covered);
-        left-size = refl;
         held-size = refl;
       };
       rest = ap (λ (m : ℕ). roundsFrom g m 0 (begin g b)) all;
@@ -143,7 +142,6 @@ progress-as u =
       ready = u .ready;
       slots = u .slots;
       few = u .few;
-      left-size = u .left-size;
       held-size = u .held-size;
     }
 

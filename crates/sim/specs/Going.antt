@@ -1,5 +1,5 @@
 -- A run of the code between rounds.
-use Prim.Native.Nat.{ℕ, _+_, _-_, _*_, _^_, _≤_, _<_}
+use Prim.Native.Nat.{ℕ, _-_, _*_, _≤_}
 use mathlib.Core.Path.{_≡_}
 use mathlib.Core.List.{List}
 use lib.Ieee.{Float}
@@ -21,20 +21,19 @@ abbrev pub settingsOf : ℕ → Config → ℕ → Settings
 settingsOf n c progress =
     record { nodes = n; repeats = c .«flood_repeats»; interval = c .«snapshot_interval»; progress = progress; rate = c .«loss_rate» }
 
--- What the lent slices hold: the repeats left, the packets held, the Paxos states, and the starts and records.
+-- What the lent slices hold: the packets held, the Paxos states, and the starts and records.
 pub record Tables : Type 0 where
-  pub left : List ℕ
   pub held : List ℕ
   pub states : List ℕ
   pub table : List ℕ
 
 -- before the first round
 abbrev pub zeros : Tables
-zeros = record { left = replicate 32 0; held = replicate 384 0; states = replicate 6240 0; table = replicate 256 0 }
+zeros = record { held = replicate 384 0; states = replicate 6240 0; table = replicate 256 0 }
 
 -- After k rounds of n nodes the code stands at x, with the tables t and the snapshot buffer b, and the run of the definitions at s.
 pub record Going (n : ℕ) (c : Config) (k : ℕ) (x : Run) (t : Tables) (b : List ℕ) (s : Running) : Type 0 where
-  pub standing : Stands n (x .flood) (t .left) (t .held) b (s .standing)
+  pub standing : Stands n (x .flood) (t .held) b (s .standing)
   pub shared : sharedOf n (x .shared) (t .states) (t .table) ≡ s .shared
   pub covered : x .covered ≡ s .covered
   pub rounds : length (s .rounds) ≡ k
@@ -43,7 +42,6 @@ pub record Going (n : ℕ) (c : Config) (k : ℕ) (x : Run) (t : Tables) (b : Li
   pub ready : Ready (c .«loss_rate») (c .seed) (x .flood .attempts) (x .flood .source)
   pub slots : x .flood .slot .0 ≤ 4096 * k
   pub few : x .covered ≤ 32 * k
-  pub left-size : length (t .left) ≡ 32
   pub held-size : length (t .held) ≡ 384
 
 -- The same of a run that began with the buffer b₀ and may take this many rounds; snapshots show its progress.
@@ -63,8 +61,8 @@ pub record Ends (g : Given) (c : Config) (r : Ended) (t : Tables) (b₀ b : List
 
 -- a flood before the first round
 pub record NewFlood (n seed : ℕ) (x : Flood) : Type 0 where
-  pub stands : (g : Given) (b : List ℕ) → g .nodes ≡ n → Stands n x (zeros .left) (zeros .held) b (begin g b .standing)
-  pub sound : (g : Settings) → g .nodes ≡ n → 1 ≤ g .interval → Sound g x
+  pub stands : (g : Given) (b : List ℕ) → g .nodes ≡ n → Stands n x (zeros .held) b (begin g b .standing)
+  pub sound : (g : Settings) → g .nodes ≡ n → 1 ≤ g .repeats → g .repeats ≤ 64 → 1 ≤ g .interval → Sound g x
   pub ready : (rate : Float) → Ready rate seed 0 (x .source)
   pub first : x .slot .0 ≡ 0
   pub untried : x .attempts ≡ 0

@@ -10,7 +10,7 @@ use Rattle.phy.specs.declared.packet.Packet.{Packet}
 use Rattle.phy.specs.declared.packet.Piggyback.{Piggyback}
 use Rattle.phy.specs.declared.ci.RoundSlots.{RoundSlots}
 use Rattle.phy.specs.Node.{new}
-use Rattle.phy.specs.Slot.{Setup, Standing, Shots}
+use Rattle.phy.specs.Slot.{Setup, Standing}
 use Rattle.phy.specs.Round.{Flooded, lengthLimit, round}
 use Rattle.protocol.specs.Paxos.{State, empty, logged}
 use Rattle.pipeline.specs.Round.{Shared, Prepared, stateOf, initiatorOf, prepareRound, processRound, shortestLog}

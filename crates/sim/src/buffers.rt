@@ -7,7 +7,7 @@ ghost use lib.Seq.{sets};
 ghost use Rattle.random.specs.Table.{tabulate};
 ghost use Rattle.protocol.specs.View.{logOf, Kept};
 ghost use Rattle.sim.specs.Entries.{terms, logsWith, numbersOf};
-ghost use Rattle.pipeline.specs.View.{Filed, recordsOf, statesOf, AllKept};
+ghost use Rattle.pipeline.specs.View.{recordsOf, statesOf, AllKept};
 
 // Copies `count` terms of a log, from a place of the states on, to the place `at` of a buffer.
 fn copy_terms(states: &[u64], from: usize, count: usize, out: &mut [u8], at: usize)

@@ -18,7 +18,7 @@ use text::listing::Summary;
 ghost use mathlib.Core.Path.{_≡_};
 ghost use mathlib.Core.Bool.{cond, _&&_};
 ghost use lib.Dec.{eqb, ltb};
-ghost use Prim.Native.Nat.{ℕ, _+_, _*_, _^_, _≤_, _<_};
+ghost use Prim.Native.Nat.{_+_, _*_, _^_, _≤_, _<_};
 ghost use lib.ListN.{length, replicate};
 ghost use Rattle.pipeline.specs.Round.{shortestLog};
 ghost use Rattle.sim.specs.Run.{Running, runRound};
@@ -92,14 +92,13 @@ fn run_round(
     config: Config,
     k: u64,
     x: Run,
-    left: &mut [u64],
     held: &mut [u64],
     states: &mut [u64],
     table: &mut [u64],
     snapshots: &mut [u64],
 ) -> Run
-    requires { ⌜ Accepted (now graph) n diameter config × (k < 2 ^ 20) × ((s : Running) × Going n config k x (record { left = now left; held = now held; states = now states; table = now table }) (now snapshots) s × (x .progress ≡ shortestLog (s .shared .states) n)) ⌝ }
-    ensures { λ r. ⌜ ((s : Running) → x .progress ≡ shortestLog (s .shared .states) n → Going n config k x (record { left = now (left .entry); held = now (held .entry); states = now (states .entry); table = now (table .entry) }) (now (snapshots .entry)) s → Going n config (k + 1) r (record { left = now (left .exit); held = now (held .exit); states = now (states .exit); table = now (table .exit) }) (now (snapshots .exit)) (runRound (givenAs (now (graph .entry)) n diameter config) k s)) ⌝ }
+    requires { ⌜ Accepted (now graph) n diameter config × (k < 2 ^ 20) × ((s : Running) × Going n config k x (record { held = now held; states = now states; table = now table }) (now snapshots) s × (x .progress ≡ shortestLog (s .shared .states) n)) ⌝ }
+    ensures { λ r. ⌜ ((s : Running) → x .progress ≡ shortestLog (s .shared .states) n → Going n config k x (record { held = now (held .entry); states = now (states .entry); table = now (table .entry) }) (now (snapshots .entry)) s → Going n config (k + 1) r (record { held = now (held .exit); states = now (states .exit); table = now (table .exit) }) (now (snapshots .exit)) (runRound (givenAs (now (graph .entry)) n diameter config) k s)) ⌝ }
 {
     let initiator = NodeId((k % (n as u64)) as usize);
     let flood = x.flood;
@@ -124,7 +123,6 @@ fn run_round(
         initiator,
         packet,
         flood,
-        left,
         held,
         snapshots,
     );
@@ -161,14 +159,13 @@ fn rounds(
     n: usize,
     diameter: usize,
     config: Config,
-    left: &mut [u64],
     held: &mut [u64],
     states: &mut [u64],
     table: &mut [u64],
     snapshots: &mut [u64],
 ) -> Ended
-    requires { ⌜ Accepted (now graph) n diameter config × (now left ≡ replicate 32 0) × (now held ≡ replicate 384 0) × (now states ≡ replicate 6240 0) × (now table ≡ replicate 256 0) ⌝ }
-    ensures { λ r. ⌜ Ends (givenAs (now (graph .entry)) n diameter config) config r (record { left = now (left .exit); held = now (held .exit); states = now (states .exit); table = now (table .exit) }) (now (snapshots .entry)) (now (snapshots .exit)) ⌝ }
+    requires { ⌜ Accepted (now graph) n diameter config × (now held ≡ replicate 384 0) × (now states ≡ replicate 6240 0) × (now table ≡ replicate 256 0) ⌝ }
+    ensures { λ r. ⌜ Ends (givenAs (now (graph .entry)) n diameter config) config r (record { held = now (held .exit); states = now (states .exit); table = now (table .exit) }) (now (snapshots .entry)) (now (snapshots .exit)) ⌝ }
 {
     let proposals = config.num_proposals;
     let most = proposals + 1002;
@@ -189,7 +186,6 @@ fn rounds(
             config,
             k,
             x,
-            left,
             held,
             states,
             table,
@@ -256,7 +252,6 @@ pub fn run_pipeline(
     requires { ⌜ Accepted (now graph) n diameter config × ((2080 ≤ length (now logs)) × (192 ≤ length (now records))) ⌝ }
     ensures { λ r. ⌜ Finishes (givenAs (now (graph .entry)) n diameter config) r (now (logs .entry)) (now (records .entry)) (now (snapshots .entry)) (now (logs .exit)) (now (records .exit)) (now (snapshots .exit)) ⌝ }
 {
-    let mut left = [0u64; 32];
     let mut held = [0u64; 384];
     let mut states = [0u64; 6240];
     let mut table = [0u64; 256];
@@ -265,7 +260,6 @@ pub fn run_pipeline(
         n,
         diameter,
         config,
-        &mut left,
         &mut held,
         &mut states,
         &mut table,

@@ -1,8 +1,7 @@
 // Text laid over a lent buffer: bytes, words and numbers behind each other. What lies past the
 // buffer's end is dropped, and the place goes on. A listing is short, so a place stays far below
 // 2^34, and no sum wraps.
-ghost use mathlib.Core.Path.{_≡_};
-ghost use mathlib.Core.List.{List, [], _∷_, _++_};
+ghost use mathlib.Core.List.{[], _∷_, _++_};
 ghost use Prim.Native.Nat.{_+_, _≤_, _<_, _^_};
 ghost use lib.ListN.{length};
 ghost use Rattle.text.specs.Overlay.{Laid};

@@ -1,7 +1,9 @@
 use Prim.Native.Nat.{ℕ, _-_, _≤_}
-use mathlib.Core.Path.{_≡_, refl, ap₂, subst⁻¹}
+use mathlib.Core.Path.{ap, subst⁻¹}
 use native.Mathlib.Omega.{arith}
 use borrow.Author.Needs.{needs}
+use denote.Ref.{now}
+use lib.ListN.{set}
 use lib.Pow.{pow-pos}
 use Rattle.network.proofs.Sets.{one-shl}
 use Rattle.phy.proofs.Masks.{or-shifted-bit}
@@ -12,14 +14,17 @@ use Rattle.phy.proofs.ci.begin.Tie as tie
 shl-own : tie.Need-shl-own
 shl-own c = search needs
 
-cast-left : tie.Need-cast-left
-cast-left c = search needs
+cast-last : tie.Need-cast-last
+cast-last c = search needs
 
-mul-left : tie.Need-mul-left
-mul-left c = search needs
+sub-last : tie.Need-sub-last
+sub-last c = search needs
 
-slice-write-left : tie.Need-slice-write-left
-slice-write-left c = search needs
+mul-ends : tie.Need-mul-ends
+mul-ends c = search needs
+
+slice-write-ends : tie.Need-slice-write-ends
+slice-write-ends c = let pre = c .before .before .before .pre in omega (arith, pre .3, pre .4)
 
 give-requires : tie.Need-give-requires
 give-requires c κs = search needs
@@ -67,7 +72,7 @@ returns c =
             snapshots = x .snapshots;
             source = x .source;
           },
-      refl,
+      ap (set (now (start .args .ends)) (start .args .settings .repeats - 1)) own,
       c .before .before .before .give .ensures,
     )
 
@@ -76,9 +81,10 @@ begin-spec =
     tie.close
     (tie.spec
     shl-own
-    cast-left
-    mul-left
-    slice-write-left
+    cast-last
+    sub-last
+    mul-ends
+    slice-write-ends
     give-requires
     shl-y
     sub-y

@@ -1,111 +1,103 @@
-use Prim.Native.Nat.{ℕ, _+_, _-_, _/_, _%_, _^_, _≤_}
-use mathlib.Core.Path.{_≡_, sym, ap, ap₂, subst⁻¹, _∙_}
-use mathlib.Core.Bool.{Bool, true, false, cond, _||_}
-use mathlib.Core.Logic.{_⊎_, inl, inr, ⊎-elim}
+use Prim.Native.Nat.{ℕ, _-_, _*_, _%_, _^_, _≤_, _<_}
+use mathlib.Core.Path.{_≡_, ap, subst, subst⁻¹, _∙_}
+use mathlib.Core.Bool.{_&&_}
+use mathlib.Core.List.{List}
+use native.Mathlib.Nat.{mod-lt}
 use native.Mathlib.Omega.{arith}
-use lib.Dec.{eqb}
-use lib.ListN.{length}
-use borrow.Author.Tests.{not-true, not-false}
-use Rattle.network.specs.Graph.{has}
-use Rattle.network.proofs.Sets.{count-le}
-use Rattle.phy.specs.View.{Gave}
-use Rattle.phy.proofs.Deliveries.{Delivering, isCovered, delivering-none, delivering-more, delivering-all}
-use Rattle.phy.proofs.Masks.{off}
+use borrow.Author.Needs.{needs}
+use denote.Ref.{now}
+use lib.Bits.{bitAnd, bitOr, and-le-l, or-lt}
+use lib.Count.{ones, ones-le}
+use lib.Pow.{pow-pos}
+use Rattle.network.specs.Graph.{has, setOf}
+use Rattle.network.proofs.Sets.{one-shl, setOf-lt}
+use Rattle.phy.specs.declared.ci.Delivered.{Delivered}
+use Rattle.phy.specs.View.{GaveAll, Delivers, sameNumbers}
+use Rattle.phy.proofs.Deliveries.{asleep-few, kept-few, same, delivers}
 use Rattle.phy.proofs.ci.deliver.Statement.{statement}
 use Rattle.phy.proofs.ci.deliver.Tie as tie
 
-one : {k : ℕ} (b : Bool) → k ≡ cond b 1 0 → k ≤ 1
-one true e = omega (arith, e)
-one false e = omega (arith, e)
+-- the same set, and the same answer, under another name
+gave-as : {s t : ℕ} {packet h h' : List ℕ} → s ≡ t → GaveAll s packet h h' → GaveAll t packet h h'
+gave-as {s} {t} {packet} {h} {h'} e g = subst (λ (x : ℕ). GaveAll x packet h h') e g
 
-abbrev Inv-loop : tie.InvT-loop
-Inv-loop n packet awake before held₀ first part₀ covered₀ holding₀ i₀ held part covered holding i =
-    Delivering n first packet awake before held₀ held part covered holding i
+delivers-as : {n first : ℕ} {packet : List ℕ} {awake before : ℕ} {h : List ℕ} {r r' : Delivered} {h' : List ℕ} → r' ≡ r → Delivers n first packet awake before h r h'
+    → Delivers n first packet awake before h r' h'
+delivers-as {n} {first} {packet} {awake} {before} {h} {r} {r'} {h'} e d = subst⁻¹ (λ (x : Delivered). Delivers n first packet awake before h x h') e d
 
-abbrev μ-loop : tie.MeasureT-loop
-μ-loop n packet awake before held₀ first part₀ covered₀ holding₀ i₀ held part covered holding i = n - i
+shl-all : tie.Need-shl-all
+shl-all c = search needs
 
-loop-holds : tie.Need-loop-holds Inv-loop μ-loop
-loop-holds c = delivering-none _ _ _ _ _ _
+sub-all : tie.Need-sub-all
+sub-all c = let start = c .before in let n = start .args .n in subst⁻¹ (λ (a : ℕ). 1 ≤ a) (one-shl 64 n (omega (arith, start .pre .0))) (pow-pos n)
 
-shr-sleeps : tie.Need-shr-sleeps Inv-loop μ-loop
-shr-sleeps c = omega arith
+sub-asleep : tie.Need-sub-asleep
+sub-asleep c = and-le-l _ _
 
-give-requires : tie.Need-give-requires Inv-loop μ-loop
-give-requires c κs = let l = c .before .before .before .loop in let pre = c .before .before .before .before .before .pre in (pre .1, omega (arith, l .inv .size, pre .0, pre .2))
+holders-requires : tie.Need-holders-requires
+holders-requires c κs =
+    let a = c .before .before .args in
+    let pre = c .before .before .pre in (
+      pre .2,
+      pre .3,
+      subst⁻¹ (λ (w : ℕ). bitAnd (bitAnd (w - 1) (a .before)) (a .awake) < 2 ^ 32) (one-shl 64 (a .n) (omega (arith, pre .0)))
+          (kept-few (a .n) (a .initiator .0) (a .packet) (a .awake) (a .before) (now (a .held)) (pre .0) (pre .1)),
+    )
 
-put-requires : tie.Need-put-requires Inv-loop μ-loop
-put-requires c κs = omega arith
+give-all-requires : tie.Need-give-all-requires
+give-all-requires c κs =
+    let a = c .before .before .before .before .args in
+    let pre = c .before .before .before .before .pre in (
+      pre .2,
+      pre .3,
+      subst⁻¹ (λ (w : ℕ). w - 1 - bitAnd (w - 1) (a .awake) < 2 ^ 32) (one-shl 64 (a .n) (omega (arith, pre .0)))
+          (asleep-few (a .n) (a .initiator .0) (a .packet) (a .awake) (a .before) (now (a .held)) (pre .0) (pre .1)),
+    )
 
-holds-requires : tie.Need-holds-requires Inv-loop μ-loop
-holds-requires c κs =
-    let l = c .before .before .before .before .loop in
-    let pre = c .before .before .before .before .before .before .pre in
-    let size : length (c .before .before .if1 .held) ≡ length (c .before .before .before .before .before .before .args .held .now)
-    = ⊎-elim (λ w. ap length (w .5) ∙ w .2 .ensures .size ∙ l .inv .size) (λ w. ap length (w .1) ∙ l .inv .size) (c .before .before .if1 .came) in
-    (pre .1, omega (arith, size, pre .0, pre .2), omega (arith, pre .0))
+shl-t13 : tie.Need-shl-t13
+shl-t13 c = search needs
 
-one-if-requires : tie.Need-one-if-requires Inv-loop μ-loop
-one-if-requires c κs = tt
+cast-t22 : tie.Need-cast-t22
+cast-t22 c =
+    let a = c .before .before .before .before .before .before .before .args in
+    let all = 1 * 2 ^ a .n % 2 ^ 64 - 1 in
+    let found = c .before .before .before .before .holders in
+    let few : found .result < 2 ^ 32 = subst⁻¹ (λ (k : ℕ). k < 2 ^ 32) (found .ensures) (setOf-lt 32 _) in
+    omega (arith, ones-le 64 _ (or-lt 64 (all - bitAnd all (a .awake)) (found .result) (omega (arith, mod-lt (1 * 2 ^ a .n) (pow-pos 64))) (omega (arith, few))))
 
-add-covered : tie.Need-add-covered Inv-loop μ-loop
-add-covered c =
-    let n = c .before .before .before .before .before .before in
-    let a = n .before .before .args in
-    let most : c .one-if .result ≤ 1 = one (eqb (a .awake / 2 ^ n .loop .i % 2) 0 || c .before .holds .result) (c .one-if .ensures) in
-    omega (arith, n .loop .inv .covered-is, count-le (n .loop .i) (isCovered (a .packet) (a .awake) (a .before) (a .held .now)), n .loop .inv .within, most)
+same-length : tie.Need-same-length
+same-length c = search needs
 
-shr-put : tie.Need-shr-put Inv-loop μ-loop
-shr-put c = omega arith
-
-put-requires-2 : tie.Need-put-requires-2 Inv-loop μ-loop
-put-requires-2 c κs = omega arith
-
-add-i : tie.Need-add-i Inv-loop μ-loop
-add-i c = omega arith
-
-loop-less : tie.Need-loop-less Inv-loop μ-loop
-loop-less c = omega arith
-
-loop-again : tie.Need-loop-again Inv-loop μ-loop
-unfolding has
-loop-again c =
-    let n = c .before .before .before .before .before .before .before in
-    let a = c .before .before .before .before .before .before .before .before .before .args in
-    let i = n .loop .i in
-    let if1 = c .before .before .before .before .before .if1 in
-    let asleep = off (a .awake) i in
-    let side : ((has (a .awake) i ≡ false) × Gave i (a .packet) (n .loop .held) (if1 .held)) ⊎ ((has (a .awake) i ≡ true) × (if1 .held ≡ n .loop .held))
-    = ⊎-elim (λ w. inl (not-true _ (sym asleep ∙ w .0 .taken), subst⁻¹ (Gave i (a .packet) (n .loop .held)) (w .5) (w .2 .ensures)))
-    (λ w. inr (not-false _ (sym asleep ∙ w .0 .left), w .1)) (if1 .came) in
-    delivering-more (n .loop .inv) (omega arith) side
-    (c .before .before .before .before .put .ensures _ (n .loop .inv .part-is) (ap (λ (b : Bool). eqb i (a .initiator .0) || b) asleep))
-    (c .put2 .ensures _ (n .loop .inv .holding-is) (ap (λ (b : Bool). b || has (a .before) i) asleep))
-    (ap (λ (k : ℕ). n .loop .covered + k) (c .before .one-if .ensures ∙ ap (λ (b : Bool). cond b 1 0) (ap₂ _||_ asleep (c .before .before .holds .ensures))))
-
-same-length : tie.Need-same-length Inv-loop μ-loop
-same-length c = c .before .loop .inv .size
-
-returns : tie.Need-returns Inv-loop μ-loop
-returns c = delivering-all (c .before .loop .inv) (omega arith)
+returns : tie.Need-returns
+returns c =
+    let a = c .before .before .before .before .before .before .before .args in
+    let pre = c .before .before .before .before .before .before .before .pre in
+    let h = now (a .held) in
+    let awake = a .awake in
+    let all = one-shl 64 (a .n) (omega (arith, pre .0)) in
+    let own = one-shl 64 (a .initiator .0) (omega (arith, pre .0, pre .1)) in
+    let found : c .before .before .before .before .holders .result ≡ same (a .n) (a .initiator .0) (a .packet) awake (a .before) h (pre .0) (pre .1)
+    = c .before .before .before .before .holders .ensures ∙ ap (λ (w : ℕ). setOf 32 (λ (k : ℕ). has (bitAnd (bitAnd (w - 1) (a .before)) awake) k && sameNumbers h (a .packet) k)) all in
+    let gave = gave-as (ap (λ (w : ℕ). w - 1 - bitAnd (w - 1) awake) all) (c .before .before .give-all .ensures) in
+    delivers-as
+    (λ i.
+    record {
+      part = bitOr (all i - 1 - bitAnd (all i - 1) awake) (own i);
+      covered = ones (bitOr (all i - 1 - bitAnd (all i - 1) awake) (found i));
+      holding = bitOr (all i - 1 - bitAnd (all i - 1) awake) (bitAnd (all i - 1) (a .before));
+    })
+    (delivers (a .n) (a .initiator .0) (a .packet) awake (a .before) h (pre .0) (pre .1) gave)
 
 pub deliver-spec : {M : Type 1} → statement M
 deliver-spec =
     tie.close
     (tie.spec
-    Inv-loop
-    μ-loop
-    loop-holds
-    shr-sleeps
-    give-requires
-    put-requires
-    holds-requires
-    one-if-requires
-    add-covered
-    shr-put
-    put-requires-2
-    add-i
-    loop-less
-    loop-again
+    shl-all
+    sub-all
+    sub-asleep
+    holders-requires
+    give-all-requires
+    shl-t13
+    cast-t22
     same-length
     returns)

@@ -1,4 +1,4 @@
-use Prim.Native.Nat.{_-_, _*_}
+use Prim.Native.Nat.{_-_}
 use mathlib.Core.Path.{refl}
 use native.Mathlib.Omega.{arith}
 use Rattle.phy.proofs.Numbers.{Giving, giving-none, giving-more, giving-all}

@@ -1,75 +1,95 @@
-use Prim.Native.Nat.{ℕ, _+_, _-_, _*_, _≤_}
-use mathlib.Core.Path.{_≡_, sym, ap, subst, _∙_}
-use mathlib.Core.Bool.{true, false}
-use mathlib.Core.List.{List, _++_, append-nil}
-use mathlib.Core.Logic.{⊎-elim}
+use Prim.Native.Nat.{ℕ, _+_, _-_, _*_, _≤_, _<_}
+use mathlib.Core.Path.{sym, ap, subst⁻¹, _∙_}
+use mathlib.Core.Bool.{true, _&&_}
+use mathlib.Core.List.{List, _++_}
 use native.Mathlib.Omega.{arith}
-use borrow.Author.Tests.{eq-eqb, ne-eqb}
 use denote.Ref.{now}
-use Rattle.network.specs.Graph.{has}
-use Rattle.phy.specs.declared.slot.Tried.{Tried}
-use Rattle.phy.specs.Slot.{receivers}
+use lib.Count.{trailingZeros}
+use Rattle.network.specs.Graph.{has, linked}
+use Rattle.network.proofs.Lowest.{Walked, Next, walked-none, walked-all, walked-next}
+use Rattle.network.proofs.Sets.{has-below, one-shl}
+use Rattle.phy.specs.Slot.{among, receivers}
 use Rattle.phy.specs.View.{TriedOn}
-use Rattle.phy.proofs.Attempts.{tried-none, tried-then, tried-as, receivers-more, receivers-of}
+use Rattle.phy.proofs.Attempts.{tried-none, tried-then, tried-as, receivers-more, receivers-skip, receivers-none, receivers-of}
+use Rattle.phy.proofs.Masks.{has-zero}
 use Rattle.phy.proofs.slot.attempts.Statement.{statement}
 use Rattle.phy.proofs.slot.attempts.Tie as tie
 
 abbrev Inv-loop : tie.InvT-loop
-Inv-loop rows n listening flooding rate tried₀ i₀ tried i = (i ≤ n) × TriedOn rate (64 * i) (receivers rows (has flooding) (has listening) n i) tried₀ tried
+Inv-loop rows n listening flooding rate tried₀ rest₀ tried rest =
+    (m : ℕ) × Walked flooding rest m × (m ≤ n) × TriedOn rate (64 * m) (receivers rows (has flooding) (has listening) n m) tried₀ tried
 
 abbrev μ-loop : tie.MeasureT-loop
-μ-loop rows n listening flooding rate tried₀ i₀ tried i = n - i
+μ-loop rows n listening flooding rate tried₀ rest₀ tried rest = rest
 
-loop-holds : tie.Need-loop-holds Inv-loop μ-loop
-unfolding receivers
-loop-holds c = (omega arith, tried-none _ _)
+next : (c : tie.In-loop Inv-loop μ-loop) → Next 64 (c .before .before .before .args .flooding) (c .before .loop .rest) (c .before .loop .inv .0) (trailingZeros 64 (c .before .loop .rest))
+next c = walked-next 64 (omega (arith, c .before .loop .inv .1 .part)) (c .loop-test .taken) (c .before .loop .inv .1)
 
-shr-if1 : tie.Need-shr-if1 Inv-loop μ-loop
-shr-if1 c = omega arith
-
-mul-attempts-at : tie.Need-mul-attempts-at Inv-loop μ-loop
-mul-attempts-at c = omega arith
-
-element-copy-out-attempts-at : tie.Need-element-copy-out-attempts-at Inv-loop μ-loop
-element-copy-out-attempts-at c = omega arith
-
-attempts-at-requires : tie.Need-attempts-at-requires Inv-loop μ-loop
-attempts-at-requires c κs = let l = c .before .before .before .loop in (omega (arith, l .inv .1 .attempts), omega (arith, l .inv .1 .successes))
-
-add-i : tie.Need-add-i Inv-loop μ-loop
-add-i c = omega arith
-
-loop-less : tie.Need-loop-less Inv-loop μ-loop
-loop-less c = omega arith
-
-loop-again : tie.Need-loop-again Inv-loop μ-loop
-unfolding has
-loop-again c =
-    let l = c .before .before .loop in
-    let a = c .before .before .before .args in
-    let list = receivers (now (a .rows)) (has (a .flooding)) (has (a .listening)) (a .n) in
-    let more = receivers-more (now (a .rows)) (has (a .flooding)) (has (a .listening)) (a .n) (l .i) in
-    ⊎-elim
-    (λ w. (
-      omega arith,
-      subst (λ (u : Tried). TriedOn (a .rate) (64 * (l .i + 1)) (list (l .i + 1)) (a .t) u) (sym (w .3))
-          (tried-as (omega arith)
-          (ap (λ (x : List ℕ). list (l .i) ++ x) (receivers-of (now (a .rows)) (l .i) (a .n) 64 (a .listening) (omega arith) (c .before .before .before .pre .1)) ∙ more true (eq-eqb _ 1 (w .0 .taken)))
-          (tried-then (l .inv .1) (w .2 .ensures))),
-    ))
-    (λ w. (
-      omega arith,
-      subst (λ (u : Tried). TriedOn (a .rate) (64 * (l .i + 1)) (list (l .i + 1)) (a .t) u) (sym (w .1))
-          (tried-as (omega arith) (sym (append-nil (list (l .i))) ∙ more false (ne-eqb _ 1 (w .0 .left))) (l .inv .1)),
-    ))
-    (c .if1 .came)
+-- it is one of the n nodes
+node : (c : tie.In-loop Inv-loop μ-loop) → trailingZeros 64 (c .before .loop .rest) < c .before .before .before .args .n
+node c = has-below (c .before .before .before .pre .2) _ (next c .is)
 
 returns : tie.Need-returns Inv-loop μ-loop
 returns c =
+    let a = c .before .args in
+    tried-as (omega arith)
+    (sym (receivers-none (now (a .rows)) (has (a .flooding)) (has (a .listening)) (a .n) (a .n) (λ j. ap (λ (s : ℕ). has s j) (c .if1 .taken) ∙ has-zero j)))
+    (tried-none _ _)
+
+loop-holds : tie.Need-loop-holds Inv-loop μ-loop
+unfolding receivers
+loop-holds c = (0, walked-none _, omega arith, tried-none _ _)
+
+cast-i : tie.Need-cast-i Inv-loop μ-loop
+cast-i c = omega (arith, next c .within)
+
+mul-attempts-at : tie.Need-mul-attempts-at Inv-loop μ-loop
+mul-attempts-at c = omega (arith, node c, c .before .before .before .pre .0)
+
+element-copy-out-attempts-at : tie.Need-element-copy-out-attempts-at Inv-loop μ-loop
+element-copy-out-attempts-at c = omega (arith, node c, c .before .before .before .pre .0)
+
+attempts-at-requires : tie.Need-attempts-at-requires Inv-loop μ-loop
+attempts-at-requires c κs =
+    let l = c .before .before .loop in
+    let pre = c .before .before .before .before .pre in
+    let i = node (c .before) in
+    let from = next (c .before) .from in
+    (omega (arith, l .inv .3 .attempts, i, from, pre .0, pre .3), omega (arith, l .inv .3 .successes, i, from, pre .0, pre .4))
+
+shl-rest : tie.Need-shl-rest Inv-loop μ-loop
+shl-rest c = omega (arith, next (c .before .before) .within)
+
+sub-rest : tie.Need-sub-rest Inv-loop μ-loop
+sub-rest c = let n = next (c .before .before) in subst⁻¹ (λ (x : ℕ). x ≤ c .before .before .before .loop .rest) (one-shl 64 _ (n .within)) (n .fits)
+
+loop-less : tie.Need-loop-less Inv-loop μ-loop
+loop-less c = let n = next (c .before .before) in omega (arith, one-shl 64 _ (n .within), n .fewer)
+
+loop-again : tie.Need-loop-again Inv-loop μ-loop
+loop-again c =
+    let n = next (c .before .before) in
+    let l = c .before .before .before .loop in
+    let a = c .before .before .before .before .before .args in
+    let pre = c .before .before .before .before .before .pre in
+    let t = trailingZeros 64 (l .rest) in
+    let list = receivers (now (a .rows)) (has (a .flooding)) (has (a .listening)) (a .n) in (
+      t + 1,
+      subst⁻¹ (λ (x : ℕ). Walked (a .flooding) (l .rest - x) (t + 1)) (one-shl 64 t (n .within)) (n .onward),
+      omega (arith, node (c .before .before)),
+      tried-as (omega (arith, n .from))
+          (ap (λ (x : List ℕ). list (l .inv .0) ++ x) (receivers-of (now (a .rows)) t (a .n) 64 (a .listening) (omega (arith, pre .0)) (pre .1))
+          ∙ ap (λ (x : List ℕ). x ++ among (a .n) (λ (j : ℕ). linked (now (a .rows)) t j && has (a .listening) j)) (sym (receivers-skip (now (a .rows)) (has (a .flooding)) (has (a .listening)) (a .n) (l .inv .0) t (n .from) (n .none)))
+          ∙ receivers-more (now (a .rows)) (has (a .flooding)) (has (a .listening)) (a .n) t true (n .is))
+          (tried-then (l .inv .3) (c .attempts-at .ensures)),
+    )
+
+returns-2 : tie.Need-returns-2 Inv-loop μ-loop
+returns-2 c =
     let l = c .before .loop in
-    let a = c .before .before .args in
-    let e : l .i ≡ a .n = omega arith in
-    tried-as (omega arith) (ap (receivers (now (a .rows)) (has (a .flooding)) (has (a .listening)) (a .n)) e) (l .inv .1)
+    let a = c .before .before .before .args in
+    let all = subst⁻¹ (λ (x : ℕ). Walked (a .flooding) x (l .inv .0)) (sym (c .loop-test .left)) (l .inv .1) in
+    tried-as (omega (arith, l .inv .2)) (sym (receivers-skip (now (a .rows)) (has (a .flooding)) (has (a .listening)) (a .n) (l .inv .0) (a .n) (l .inv .2) (λ i u v. walked-all all i u))) (l .inv .3)
 
 pub attempts-spec : {M : Type 1} → statement M
 attempts-spec =
@@ -77,12 +97,14 @@ attempts-spec =
     (tie.spec
     Inv-loop
     μ-loop
+    returns
     loop-holds
-    shr-if1
+    cast-i
     mul-attempts-at
     element-copy-out-attempts-at
     attempts-at-requires
-    add-i
+    shl-rest
+    sub-rest
     loop-less
     loop-again
-    returns)
+    returns-2)

@@ -1,59 +1,84 @@
-use Prim.Native.Nat.{_-_, _≤_}
-use mathlib.Core.Path.{_≡_, sym, _∙_}
-use mathlib.Core.Bool.{true, false}
-use mathlib.Core.Logic.{⊎-elim}
+use Prim.Native.Nat.{ℕ, _+_, _-_, _*_, _%_, _^_, _≤_, _<_}
+use mathlib.Core.Path.{_≡_, sym, _∙_, subst}
 use native.Mathlib.Omega.{arith}
-use borrow.Author.Tests.{eq-eqb, ne-eqb}
+use lib.Count.{trailingZeros}
 use Rattle.network.specs.Graph.{has}
+use Rattle.network.proofs.Sets.{one-shl}
+use Rattle.network.proofs.Lowest.{Walked, Next, walked-none, walked-next, walked-all}
 use Rattle.phy.specs.Slot.{among}
 use Rattle.pipeline.specs.View.{Files}
-use Rattle.pipeline.proofs.Filing.{files-none, files-at, files-as, files-more, files-all-known}
+use Rattle.pipeline.proofs.Filing.{files-none, files-skip, files-more, files-all-known}
 use Rattle.pipeline.proofs.records.record_all.Statement.{statement}
 use Rattle.pipeline.proofs.records.record_all.Tie as tie
 
+-- the terms below m are recorded
 abbrev Inv-loop : tie.InvT-loop
-Inv-loop table₀ end newly r₀ t₀ table r t = (t ≤ 64) × Files end (among t (has newly)) r₀ table₀ r table
+Inv-loop table₀ end newly r₀ rest₀ table r rest =
+    (rest < 2 ^ 64) × (m : ℕ) × (m ≤ 64) × Walked newly rest m × Files end (among m (has newly)) r₀ table₀ r table
 
 abbrev μ-loop : tie.MeasureT-loop
-μ-loop table₀ end newly r₀ t₀ table r t = 64 - t
+μ-loop table₀ end newly r₀ rest₀ table r rest = rest
+
+-- the lowest term that is left
+abbrev term : tie.In-loop Inv-loop μ-loop → ℕ
+term c = trailingZeros 64 (c .before .loop .rest)
+
+next : (c : tie.In-loop Inv-loop μ-loop) →
+    let l = c .before .loop in
+    Next 64 (c .before .before .before .before .before .args .newly) (l .rest) (l .inv .1) (term c)
+next c = walked-next 64 (c .before .loop .inv .0) (c .loop-test .taken) (c .before .loop .inv .3)
+
+shifted : (c : tie.In-loop Inv-loop μ-loop) → 1 * 2 ^ term c % 2 ^ 64 ≡ 2 ^ term c
+shifted c = one-shl 64 (term c) (next c .within)
 
 returns : tie.Need-returns Inv-loop μ-loop
 returns c = files-all-known (c .before .before .before .args .end) (c .before .before .before .args .newly) (c .before .before .before .pre) (c .if1 .taken)
 
 loop-holds : tie.Need-loop-holds Inv-loop μ-loop
 unfolding among
-loop-holds c = (omega arith, files-none (c .before .before .before .pre))
+loop-holds c = (omega arith, 0, omega arith, walked-none _, files-none (c .before .before .before .pre))
 
-shr-if2 : tie.Need-shr-if2 Inv-loop μ-loop
-shr-if2 c = omega arith
+cast-t : tie.Need-cast-t Inv-loop μ-loop
+cast-t c = omega (arith, next c .within)
 
 record-one-requires : tie.Need-record-one-requires Inv-loop μ-loop
-record-one-requires c κs = (c .before .before .before .loop .inv .1 .filed, omega arith)
+record-one-requires c κs = (c .before .before .loop .inv .4 .filed, next (c .before) .within)
 
-add-t : tie.Need-add-t Inv-loop μ-loop
-add-t c = omega arith
+shl-rest : tie.Need-shl-rest Inv-loop μ-loop
+shl-rest c = next (c .before .before .before .before) .within
+
+sub-rest : tie.Need-sub-rest Inv-loop μ-loop
+sub-rest c =
+    let i = c .before .before .before .before in
+    omega (arith, shifted i, next i .fits)
 
 loop-less : tie.Need-loop-less Inv-loop μ-loop
-loop-less c = omega arith
+loop-less c =
+    let i = c .before .before .before .before in
+    omega (arith, shifted i, next i .fewer)
 
 loop-again : tie.Need-loop-again Inv-loop μ-loop
-unfolding has
 loop-again c =
-    let l = c .before .before .loop in
-    let newly = has (c .before .before .before .before .before .before .args .newly) in
-    ⊎-elim
-    (λ w. (omega arith, files-as (w .5) (w .6) (files-more newly true (eq-eqb _ 1 (w .0 .taken)) (l .inv .1) (w .2 .ensures))))
-    (λ w. (omega arith, files-as (w .1) (w .2) (files-more newly false (ne-eqb _ 1 (w .0 .left)) (l .inv .1) (files-none (l .inv .1 .filed)))))
-    (c .if2 .came)
+    let i = c .before .before .before .before in
+    let l = i .before .loop in
+    let newly = i .before .before .before .before .before .args .newly in
+    let n = next i in (
+      omega (arith, l .inv .0),
+      term i + 1,
+      omega (arith, n .within),
+      subst (λ (x : ℕ). Walked newly (l .rest - x) (term i + 1)) (sym (shifted i)) (n .onward),
+      files-more (has newly) (n .is) (files-skip (has newly) (n .from) (n .none) (l .inv .4)) (c .before .before .record-one .ensures),
+    )
 
 same-length : tie.Need-same-length Inv-loop μ-loop
-same-length c = c .before .loop .inv .1 .filed .room ∙ sym (c .before .before .before .before .before .pre .room)
+same-length c = c .before .loop .inv .4 .filed .room ∙ sym (c .before .before .before .before .before .pre .room)
 
 returns-2 : tie.Need-returns-2 Inv-loop μ-loop
 returns-2 c =
     let l = c .before .loop in
-    let e : l .t ≡ 64 = omega arith in
-    files-at (has (c .before .before .before .before .before .args .newly)) e (l .inv .1)
+    let newly = c .before .before .before .before .before .args .newly in
+    let done = subst (λ (r : ℕ). Walked newly r (l .inv .1)) (c .loop-test .left) (l .inv .3) in
+    files-skip (has newly) (l .inv .2) (λ k g _. walked-all done k g) (l .inv .4)
 
 pub record-all-spec : {M : Type 1} → statement M
 record-all-spec =
@@ -63,9 +88,10 @@ record-all-spec =
     μ-loop
     returns
     loop-holds
-    shr-if2
+    cast-t
     record-one-requires
-    add-t
+    shl-rest
+    sub-rest
     loop-less
     loop-again
     same-length

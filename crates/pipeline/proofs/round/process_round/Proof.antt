@@ -1,111 +1,187 @@
-use Prim.Native.Nat.{ℕ, _+_, _-_, _≤_}
+use Prim.Native.Nat.{ℕ, _+_, _-_, _*_, _%_, _^_, _≤_, _<_}
 use mathlib.Core.Path.{_≡_, refl, sym, ap, subst, subst⁻¹, _∙_}
-use mathlib.Core.Logic.{⊎-elim}
-use native.Mathlib.Nat.{add-zero}
+use native.Mathlib.Nat.{add-zero, mod-lt, lt-trans}
 use native.Mathlib.Omega.{arith}
-use borrow.Author.Tests.{eq-eqb, ne-eqb}
+use lib.Count.{trailingZeros}
+use lib.Pow.{pow-pos}
 use denote.Ref.{now}
 use Rattle.network.specs.Graph.{has}
+use Rattle.network.proofs.Sets.{has-low, has-below, one-shl}
+use Rattle.network.proofs.Lowest.{Walked, Next, walked-none, walked-next, walked-all}
 use Rattle.protocol.specs.View.{Carried}
 use Rattle.pipeline.specs.declared.shared.Shared.{Shared}
-use Rattle.pipeline.specs.Round.{turns, takeTurn, processRound}
+use Rattle.pipeline.specs.Round.{Shared as Whole, turns, takeTurn, processRound}
 use Rattle.pipeline.specs.View.{Sharing, sharedOf}
-use Rattle.pipeline.proofs.Sharing.{cleared-sharing, sharing-more, sharing-as, turns-more, turns-same}
+use Rattle.pipeline.proofs.Sharing.{cleared-sharing, sharing-more, turns-more, turns-skip}
 use Rattle.pipeline.proofs.round.process_round.Statement.{statement}
 use Rattle.pipeline.proofs.round.process_round.Tie as tie
 
+-- the nodes below m have had their turns
 abbrev Inv-loop : tie.InvT-loop
-Inv-loop states₀ table₀ n packet slot part y₀ j₀ states table y j =
-    (j ≤ n)
+Inv-loop states₀ table₀ n packet slot part y₀ rest₀ states table y rest =
+    (rest < 2 ^ 64)
+    × (m : ℕ)
+    × (m ≤ n)
+    × Walked rest₀ rest m
     × (y .counter ≡ y₀ .counter)
-    × ((a b : ℕ) → Sharing n a b y₀ states₀ table₀ → Sharing n a (b + j) y states table)
-    × ((a b : ℕ) → Sharing n a b y₀ states₀ table₀ → sharedOf n y states table ≡ turns packet (slot .0) part j (sharedOf n y₀ states₀ table₀))
+    × ((a b : ℕ) → Sharing n a b y₀ states₀ table₀ → Sharing n a (b + m) y states table)
+    × ((a b : ℕ) → Sharing n a b y₀ states₀ table₀ → sharedOf n y states table ≡ turns packet (slot .0) part m (sharedOf n y₀ states₀ table₀))
 
 abbrev μ-loop : tie.MeasureT-loop
-μ-loop states₀ table₀ n packet slot part y₀ j₀ states table y j = n - j
+μ-loop states₀ table₀ n packet slot part y₀ rest₀ states table y rest = rest
+
+-- what held of x holds of it without its piggyback
+from : (c : tie.At-loop Inv-loop μ-loop) (k b : ℕ) →
+    let a = c .before .before .before .before .args in
+    Sharing (a .n) k b (a .x) (now (a .states)) (now (a .table)) → Sharing (a .n) k b (c .before .cleared .result) (now (a .states)) (now (a .table))
+from c k b s =
+    let a = c .before .before .before .before .args in
+    subst⁻¹ (λ (y : Shared). Sharing (a .n) k b y (now (a .states)) (now (a .table))) (c .before .cleared .ensures) (cleared-sharing s)
+
+-- what the loop begins with
+abbrev start : tie.At-loop Inv-loop μ-loop → Whole
+start c =
+    let a = c .before .before .before .before .args in
+    sharedOf (a .n) (c .before .cleared .result) (now (a .states)) (now (a .table))
+
+-- the nodes below n that took part
+abbrev took : tie.At-loop Inv-loop μ-loop → ℕ
+took c =
+    let a = c .before .before .before .before .args in
+    a .part % (1 * 2 ^ a .n % 2 ^ 64)
+
+took-is : (c : tie.At-loop Inv-loop μ-loop) →
+    let a = c .before .before .before .before .args in
+    took c ≡ a .part % 2 ^ a .n
+took-is c =
+    let b = c .before .before .before .before in
+    ap (λ (x : ℕ). b .args .part % x) (one-shl 64 (b .args .n) (omega (arith, b .pre .1)))
+
+has-took : (c : tie.At-loop Inv-loop μ-loop) (j : ℕ) →
+    let a = c .before .before .before .before .args in
+    j < a .n → has (took c) j ≡ has (a .part) j
+has-took c j h = ap (λ (x : ℕ). has x j) (took-is c) ∙ has-low _ _ j h
+
+-- the lowest node that is left
+abbrev node : tie.In-loop Inv-loop μ-loop → ℕ
+node c = trailingZeros 64 (c .before .loop .rest)
+
+next : (c : tie.In-loop Inv-loop μ-loop) → Next 64 (took (c .before)) (c .before .loop .rest) (c .before .loop .inv .1) (node c)
+next c = walked-next 64 (c .before .loop .inv .0) (c .loop-test .taken) (c .before .loop .inv .3)
+
+shifted : (c : tie.In-loop Inv-loop μ-loop) → 1 * 2 ^ node c % 2 ^ 64 ≡ 2 ^ node c
+shifted c = one-shl 64 (node c) (next c .within)
+
+below : (c : tie.In-loop Inv-loop μ-loop) → node c < c .before .before .before .before .before .args .n
+below c =
+    let a = c .before .before .before .before .before .args in
+    has-below (subst⁻¹ (λ (x : ℕ). x < 2 ^ a .n) (took-is (c .before)) (mod-lt (a .part) (pow-pos (a .n)))) (node c) (next c .is)
+
+module _ (c : tie.In-loop Inv-loop μ-loop) (k b : ℕ)
+    (s :
+    let a = c .before .before .before .before .before .args in
+    Sharing (a .n) k b (c .before .before .cleared .result) (now (a .states)) (now (a .table))) where
+  so-far :
+      let l = c .before .loop in
+      Sharing (c .before .before .before .before .before .args .n) k (b + node c) (l .y) (l .states) (l .table)
+  so-far = sharing-more (omega (arith, next c .from)) (c .before .loop .inv .5 k b s)
+
+  turned :
+      let l = c .before .loop in
+      let a = c .before .before .before .before .before .args in
+      sharedOf (a .n) (l .y) (l .states) (l .table) ≡ turns (a .packet) (a .slot .0) (a .part) (node c) (start (c .before))
+  turned =
+      let a = c .before .before .before .before .before .args in
+      c .before .loop .inv .6 k b s
+      ∙ sym (turns-skip (a .packet) (a .slot .0) (a .part) _ (node c) (start (c .before)) (next c .from)
+      (λ j u v. sym (has-took (c .before) j (omega (arith, v, below c))) ∙ next c .none j u v))
 
 cleared-requires : tie.Need-cleared-requires Inv-loop μ-loop
 cleared-requires c κs = tt
+
+shl-rest : tie.Need-shl-rest Inv-loop μ-loop
+shl-rest c = omega arith
+
+rem-rest : tie.Need-rem-rest Inv-loop μ-loop
+rem-rest c =
+    let n = c .before .before .before .args .n in
+    omega (arith, one-shl 64 n (omega arith), pow-pos n)
 
 loop-holds : tie.Need-loop-holds Inv-loop μ-loop
 unfolding turns
 loop-holds c =
     let a = c .before .before .before .args in
-    (omega arith, refl, (λ k m s. subst (λ (u : ℕ). Sharing (a .n) k u (c .cleared .result) (now (a .states)) (now (a .table))) (sym (add-zero m)) s), (λ k m s. refl))
+    (lt-trans (mod-lt (a .part) (rem-rest c)) (mod-lt (1 * 2 ^ a .n) (pow-pos 64)), 0, omega arith, walked-none _, refl, (λ k m s. subst (λ (u : ℕ). Sharing (a .n) k u (c .cleared .result) (now (a .states)) (now (a .table))) (sym (add-zero m)) s), (λ k m s. refl))
 
-shr-if1 : tie.Need-shr-if1 Inv-loop μ-loop
-shr-if1 c = omega arith
+cast-j : tie.Need-cast-j Inv-loop μ-loop
+cast-j c = omega (arith, next c .within)
 
 take-turn-requires : tie.Need-take-turn-requires Inv-loop μ-loop
 take-turn-requires c κs =
-    let l = c .before .before .before .before .loop in
-    let start = c .before .before .before .before .before .before .before .before in
-    let a = start .args in
-    let pre = start .pre .0 in
-    let same = c .before .before .before .before .before .cleared .ensures in
-    let s = l .inv .2 (pre .0) (pre .1) (subst⁻¹ (λ (y : Shared). Sharing (a .n) (pre .0) (pre .1) y (now (a .states)) (now (a .table))) same (cleared-sharing (pre .2))) in (
-      (a .n, pre .0, pre .1 + l .j, s, omega arith, start .pre .1, omega (arith, pre .3, start .pre .1)),
-      subst⁻¹ (λ (m : ℕ). Carried m (a .packet)) (l .inv .1 ∙ ap (λ (x : Shared). x .counter) same) (start .pre .2),
+    let i = c .before .before in
+    let b = i .before .before .before .before .before in
+    let a = b .args in
+    let pre = b .pre .0 in (
+      (a .n, pre .0, pre .1 + node i, so-far i (pre .0) (pre .1) (from (i .before) (pre .0) (pre .1) (pre .2)), below i, b .pre .1, omega (arith, pre .3, next i .within)),
+      subst⁻¹ (λ (m : ℕ). Carried m (a .packet)) (i .before .loop .inv .4 ∙ ap (λ (x : Shared). x .counter) (i .before .before .cleared .ensures)) (b .pre .2),
     )
 
-add-j : tie.Need-add-j Inv-loop μ-loop
-add-j c = omega arith
+shl-rest-2 : tie.Need-shl-rest-2 Inv-loop μ-loop
+shl-rest-2 c = next (c .before .before .before .before .before .before .before) .within
+
+sub-rest : tie.Need-sub-rest Inv-loop μ-loop
+sub-rest c =
+    let i = c .before .before .before .before .before .before .before in
+    omega (arith, shifted i, next i .fits)
 
 loop-less : tie.Need-loop-less Inv-loop μ-loop
-loop-less c = omega arith
+loop-less c =
+    let i = c .before .before .before .before .before .before .before in
+    omega (arith, shifted i, next i .fewer)
 
 loop-again : tie.Need-loop-again Inv-loop μ-loop
-unfolding has
 loop-again c =
-    let l = c .before .before .loop in
-    let a = c .before .before .before .before .before .before .args in
-    let start = sharedOf (a .n) (c .before .before .before .cleared .result) (now (a .states)) (now (a .table)) in
-    ⊎-elim
-    (λ w. (
+    let turn = c .before .before .before .before .take-turn in
+    let i = c .before .before .before .before .before .before .before in
+    let l = i .before .loop in
+    let a = i .before .before .before .before .before .args in
+    let h = below i in (
+      omega (arith, l .inv .0),
+      node i + 1,
       omega arith,
-      ap (λ (y : Shared). y .counter) (w .10) ∙ w .3 .ensures .counter ∙ l .inv .1,
-      (λ k m s. sharing-as (w .8) (w .9) (w .10) (sharing-more (omega arith) (w .3 .ensures .sharing (a .n) k (m + l .j) (omega arith) (l .inv .2 k m s)))),
-      (λ k m s. (λ i. sharedOf (a .n) (w .10 i) (w .8 i) (w .9 i)) ∙ w .3 .ensures .shared (a .n) k (m + l .j) (omega arith) (l .inv .2 k m s)
-          ∙ ap (takeTurn (a .packet) (a .slot .0) (l .j)) (l .inv .3 k m s) ∙ sym (turns-more (a .packet) (a .slot .0) (a .part) (l .j) start (eq-eqb _ 1 (w .0 .taken)))),
-    ))
-    (λ w. (
-      omega arith,
-      ap (λ (y : Shared). y .counter) (w .3) ∙ l .inv .1,
-      (λ k m s. sharing-as (w .1) (w .2) (w .3) (sharing-more (omega arith) (l .inv .2 k m s))),
-      (λ k m s. (λ i. sharedOf (a .n) (w .3 i) (w .1 i) (w .2 i)) ∙ l .inv .3 k m s ∙ sym (turns-same (a .packet) (a .slot .0) (a .part) (l .j) start (ne-eqb _ 1 (w .0 .left)))),
-    ))
-    (c .if1 .came)
+      subst (λ (x : ℕ). Walked (took (i .before)) (l .rest - x) (node i + 1)) (sym (shifted i)) (next i .onward),
+      turn .ensures .counter ∙ l .inv .4,
+      (λ k b s. sharing-more (omega arith) (turn .ensures .sharing (a .n) k (b + node i) h (so-far i k b s))),
+      (λ k b s.
+          turn .ensures .shared (a .n) k (b + node i) h (so-far i k b s)
+          ∙ ap (takeTurn (a .packet) (a .slot .0) (node i)) (turned i k b s)
+          ∙ sym (turns-more (a .packet) (a .slot .0) (a .part) (node i) (start (i .before)) (sym (has-took (i .before) (node i) h) ∙ next i .is))),
+    )
 
 same-length : tie.Need-same-length Inv-loop μ-loop
 same-length c =
-    let start = c .before .before .before .before .before in
-    let a = start .args in
-    let pre = start .pre .0 in
-    let s = c .before .loop .inv .2 (pre .0) (pre .1) (subst⁻¹ (λ (y : Shared). Sharing (a .n) (pre .0) (pre .1) y (now (a .states)) (now (a .table))) (c .before .before .cleared .ensures) (cleared-sharing (pre .2))) in
-    s .kept .room ∙ sym (pre .2 .kept .room)
+    let pre = c .before .before .before .before .before .pre .0 in
+    c .before .loop .inv .5 (pre .0) (pre .1) (from (c .before) (pre .0) (pre .1) (pre .2)) .kept .room ∙ sym (pre .2 .kept .room)
 
 same-length-2 : tie.Need-same-length-2 Inv-loop μ-loop
 same-length-2 c =
-    let start = c .before .before .before .before .before in
-    let a = start .args in
-    let pre = start .pre .0 in
-    let s = c .before .loop .inv .2 (pre .0) (pre .1) (subst⁻¹ (λ (y : Shared). Sharing (a .n) (pre .0) (pre .1) y (now (a .states)) (now (a .table))) (c .before .before .cleared .ensures) (cleared-sharing (pre .2))) in
-    s .started .room ∙ sym (pre .2 .started .room)
+    let pre = c .before .before .before .before .before .pre .0 in
+    c .before .loop .inv .5 (pre .0) (pre .1) (from (c .before) (pre .0) (pre .1) (pre .2)) .started .room ∙ sym (pre .2 .started .room)
 
 returns : tie.Need-returns Inv-loop μ-loop
 unfolding processRound sharedOf
 returns c =
     let l = c .before .loop in
-    let start = c .before .before .before .before .before in
-    let a = start .args in
+    let b = c .before .before .before .before .before in
+    let a = b .args in
     let same = c .before .before .cleared .ensures in
-    let done : l .j ≡ a .n = omega arith in
-    let from : (k m : ℕ) → Sharing (a .n) k m (a .x) (now (a .states)) (now (a .table)) → Sharing (a .n) k m (c .before .before .cleared .result) (now (a .states)) (now (a .table))
-    = λ k m s. subst⁻¹ (λ (y : Shared). Sharing (a .n) k m y (now (a .states)) (now (a .table))) same (cleared-sharing s) in
+    let done = subst (λ (r : ℕ). Walked (took (c .before)) r (l .inv .1)) (c .loop-test .left) (l .inv .3) in
     record {
-      counter = l .inv .1 ∙ ap (λ (y : Shared). y .counter) same;
-      sharing = λ k m s. subst (λ (u : ℕ). Sharing (a .n) k (m + u) (l .y) (l .states) (l .table)) done (l .inv .2 k m (from k m s));
-      shared = l .inv .3 _ _ (from _ _ (start .pre .0 .2)) ∙ ap (λ (u : ℕ). turns (a .packet) (a .slot .0) (a .part) u (sharedOf (a .n) (c .before .before .cleared .result) (now (a .states)) (now (a .table)))) done
+      counter = l .inv .4 ∙ ap (λ (y : Shared). y .counter) same;
+      sharing = λ k m s. sharing-more (omega (arith, l .inv .2)) (l .inv .5 k m (from (c .before) k m s));
+      shared =
+          l .inv .6 _ _ (from (c .before) _ _ (b .pre .0 .2))
+          ∙ sym (turns-skip (a .packet) (a .slot .0) (a .part) _ (a .n) (start (c .before)) (l .inv .2) (λ j u v. sym (has-took (c .before) j v) ∙ walked-all done j u))
           ∙ ap (λ (y : Shared). turns (a .packet) (a .slot .0) (a .part) (a .n) (sharedOf (a .n) y (now (a .states)) (now (a .table)))) same;
     }
 
@@ -116,10 +192,13 @@ process-round-spec =
     Inv-loop
     μ-loop
     cleared-requires
+    shl-rest
+    rem-rest
     loop-holds
-    shr-if1
+    cast-j
     take-turn-requires
-    add-j
+    shl-rest-2
+    sub-rest
     loop-less
     loop-again
     same-length

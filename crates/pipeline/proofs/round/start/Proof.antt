@@ -1,5 +1,5 @@
 use Prim.Native.Nat.{ℕ}
-use mathlib.Core.Path.{_≡_, ap, subst⁻¹}
+use mathlib.Core.Path.{ap, subst⁻¹}
 use mathlib.Core.Bool.{Bool, cond}
 use native.Mathlib.Omega.{arith}
 use borrow.Author.Needs.{needs}

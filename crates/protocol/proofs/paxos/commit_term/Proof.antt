@@ -10,9 +10,9 @@ use lib.Bits.{bitOr}
 use lib.Count.{ones}
 use lib.ListN.{getD, set, length-set}
 use Rattle.network.specs.Graph.{has}
+use Rattle.network.proofs.Lowest.{has-le}
 use Rattle.protocol.specs.View.{pendingSet, loggedSet}
 use Rattle.protocol.proofs.Sets.{bit-word}
-use Rattle.protocol.proofs.Words.{has-le}
 use Rattle.protocol.proofs.Kept.{risen}
 use Rattle.protocol.proofs.Steps.{commit-absent, commit-room, commit-pending}
 use Rattle.protocol.proofs.paxos.commit_term.Statement.{statement}

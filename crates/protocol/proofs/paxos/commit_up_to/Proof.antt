@@ -1,87 +1,77 @@
--- `protocol::paxos::commit_up_to` meets its contract. The invariant: the terms below t are committed, and `rest` is what is
--- left of the set.
+-- `protocol::paxos::commit_up_to` meets its contract. The invariant: the terms below m are committed, and `rest` is what is
+-- left of the set from m on.
 -- Assumes nothing.
 use borrow.Author.Needs.{needs}
-use Prim.Native.Nat.{ℕ, suc, _+_, _-_, _/_, _%_, _^_, _≤_, _<_}
-use mathlib.Core.Bool.{Bool, not, _&&_}
-use mathlib.Core.List.{List}
-use mathlib.Core.Logic.{⊎-elim}
+use Prim.Native.Nat.{ℕ, suc, _+_, _-_, _*_, _%_, _^_, _≤_, _<_}
+use mathlib.Core.Bool.{true}
 use mathlib.Core.Path.{_≡_, refl, sym, ap, _∙_, subst}
-use native.Mathlib.Nat.{div-one}
 use native.Mathlib.Omega.{arith}
-use borrow.Author.Tests.{eq-eqb, ne-eqb, le-leb, not-true, not-false}
 use lib.Bits.{bitAnd, and-le-l}
-use lib.Dec.{eqb}
-use lib.Pow.{shr-shr}
+use lib.Count.{trailingZeros}
+use lib.Dec.{leb}
 use Rattle.network.specs.Graph.{has}
-use Rattle.phy.proofs.Masks.{bits-left, none-left}
+use Rattle.network.proofs.Sets.{has-below, setOf-lt, one-shl}
+use Rattle.network.proofs.Lowest.{Walked, Next as Lower, walked-none, walked-next, walked-all}
 use Rattle.protocol.specs.Paxos.{commitBelow}
 use Rattle.protocol.specs.View.{view, loggedSet, Next}
-use Rattle.protocol.proofs.Steps.{next-same, newlySet, newly-word, has-newly, newly-is, turn-kept, was-logged, turn-logged, turn-new, turn-end}
+use Rattle.protocol.proofs.Steps.{next-same, newlySet, newly-word, newly-is, turn-kept, turn-free, turn-new, turn-past}
 use Rattle.protocol.proofs.paxos.commit_up_to.Statement.{statement}
 use Rattle.protocol.proofs.paxos.commit_up_to.Tie as tie
 
 abbrev Inv-loop : tie.InvT-loop
-Inv-loop states₀ at reach newly rest₀ t₀ states rest t =
-    (t ≤ 64) × (rest ≡ (reach - bitAnd reach (loggedSet states₀ at)) / 2 ^ t) ×
-    ((u : ℕ) → u < 64 → reach - bitAnd reach (loggedSet states₀ at) ≡ newlySet u (loggedSet states₀ at) →
-    (t ≤ suc u) × Next (λ c. u < c) at states₀ states (commitBelow t (view states₀ at)))
+Inv-loop states₀ at reach newly rest₀ states rest =
+    (rest < 2 ^ 64) × (m : ℕ) × Walked newly rest m ×
+    ((u : ℕ) → u < 64 → newly ≡ newlySet u (loggedSet states₀ at) →
+    (m ≤ suc u) × Next (λ c. u < c) at states₀ states (commitBelow m (view states₀ at)))
 
 abbrev μ-loop : tie.MeasureT-loop
-μ-loop states₀ at reach newly rest₀ t₀ states rest t = 64 - t
+μ-loop states₀ at reach newly rest₀ states rest = rest
 
 -- the set of the terms that are newly committed
-abbrev newly : tie.In-loop Inv-loop μ-loop → ℕ
+abbrev newly : tie.At-loop Inv-loop μ-loop → ℕ
 newly c =
-    let a = c .before .before .before .before .before .args in
-    let r = c .before .before .before .up-to .result in
+    let a = c .before .before .before .before .args in
+    let r = c .before .before .up-to .result in
     r - bitAnd r (loggedSet (a .states .now) (a .at))
 
-newly-is-set : (c : tie.In-loop Inv-loop μ-loop) →
-    let a = c .before .before .before .before .before .args in
+newly-is-set : (c : tie.At-loop Inv-loop μ-loop) →
+    let a = c .before .before .before .before .args in
     newly c ≡ newlySet (a .last .0) (loggedSet (a .states .now) (a .at))
 newly-is-set c =
-    let a = c .before .before .before .before .before .args in
-    ap (λ (x : ℕ). x - bitAnd x (loggedSet (a .states .now) (a .at))) (c .before .before .before .up-to .ensures)
+    let a = c .before .before .before .before .args in
+    ap (λ (x : ℕ). x - bitAnd x (loggedSet (a .states .now) (a .at))) (c .before .before .up-to .ensures)
+
+-- the lowest term that is left
+abbrev term : tie.In-loop Inv-loop μ-loop → ℕ
+term c = trailingZeros 64 (c .before .loop .rest)
+
+next : (c : tie.In-loop Inv-loop μ-loop) → Lower 64 (newly (c .before)) (c .before .loop .rest) (c .before .loop .inv .1) (term c)
+next c = walked-next 64 (c .before .loop .inv .0) (c .loop-test .taken) (c .before .loop .inv .2)
 
 module _
     (c : tie.In-loop Inv-loop μ-loop) (u : ℕ) (h : u < 64)
-    (e : newly c ≡ newlySet u (loggedSet (c .before .before .before .before .before .args .states .now) (c .before .before .before .before .before .args .at))) where
+    (e : newly (c .before) ≡ newlySet u (loggedSet (c .before .before .before .before .before .args .states .now) (c .before .before .before .before .before .args .at))) where
+  is-new :
+      let a = c .before .before .before .before .before .args in
+      has (newlySet u (loggedSet (a .states .now) (a .at))) (term c) ≡ true
+  is-new = ap (λ (x : ℕ). has x (term c)) (sym e) ∙ next c .is
+
+  at-most : term c ≤ u
+  at-most =
+      let a = c .before .before .before .before .before .args in
+      omega (arith, has-below (newly-word u (loggedSet (a .states .now) (a .at)) h) (term c) is-new)
+
   so-far :
       let a = c .before .before .before .before .before .args in
+      Next (λ k. u < k) (a .at) (a .states .now) (c .before .loop .states) (commitBelow (term c) (view (a .states .now) (a .at)))
+  so-far =
+      let b = c .before .before .before .before .before in
       let l = c .before .loop in
-      Next (λ k. u < k) (a .at) (a .states .now) (l .states) (commitBelow (l .t) (view (a .states .now) (a .at)))
-  so-far = c .before .loop .inv .2 u h e .1
+      turn-past (b .args .states .now) (l .states) (b .args .at) u (l .inv .1) (b .pre .0) h (l .inv .3 u h e .1) (term c) (next c .from) (omega (arith, at-most))
+      (λ j g k. ap (λ (x : ℕ). has x j) (sym e) ∙ next c .none j g k)
 
-  -- a term is left, so t is at most the last one
-  within : c .before .loop .t ≤ u
-  within =
-      let l = c .before .loop in
-      let a = c .before .before .before .before .before .args in
-      let set = loggedSet (a .states .now) (a .at) in
-      let lt : l .t < suc u =
-      bits-left (suc u) (newlySet u set) (l .t) (newly-word u set h) (l .inv .2 u h e .0)
-      (λ q. c .loop-test .taken (l .inv .1 ∙ ap (λ (x : ℕ). x / 2 ^ (l .t)) e ∙ q)) in
-      omega arith
-
-  -- the lowest bit of what is left says whether term t was not logged
-  lowest :
-      let a = c .before .before .before .before .before .args in
-      not (has (loggedSet (a .states .now) (a .at)) (c .before .loop .t)) ≡ eqb (c .before .loop .rest % 2) 1
-  unfolding has
-  lowest =
-      let l = c .before .loop in
-      let a = c .before .before .before .before .before .args in
-      let set = loggedSet (a .states .now) (a .at) in
-      ap (λ (x : Bool). x && not (has set (l .t))) (sym (le-leb (l .t) u within)) ∙
-      sym (has-newly u set (l .t) (omega (arith, within))) ∙
-      ap (λ (x : ℕ). has x (l .t)) (sym e) ∙
-      ap (λ (x : ℕ). eqb (x % 2) 1) (sym (l .inv .1))
-
-more-left : (c : tie.In-loop Inv-loop μ-loop) → c .before .loop .t < 64
-more-left c =
-    let b = c .before .before .before .before .before in
-    omega (arith, within c (b .args .last .0) (b .pre .1) (newly-is-set c), b .pre .1)
+shifted : (c : tie.In-loop Inv-loop μ-loop) → 1 * 2 ^ term c % 2 ^ 64 ≡ 2 ^ term c
+shifted c = one-shl 64 (term c) (next c .within)
 
 up-to-requires : tie.Need-up-to-requires Inv-loop μ-loop
 up-to-requires c κs = search needs
@@ -100,62 +90,56 @@ sub-newly c = and-le-l _ _
 
 loop-holds : tie.Need-loop-holds Inv-loop μ-loop
 unfolding commitBelow
-loop-holds c = (omega arith, sym (div-one _), λ u h e. (omega arith, next-same refl))
+loop-holds c =
+    let word = setOf-lt 64 (λ (t : ℕ). leb t (c .before .before .before .args .last .0)) in
+    (omega (arith, c .before .up-to .ensures), 0, walked-none _, λ u h e. (omega arith, next-same refl))
+
+cast-t : tie.Need-cast-t Inv-loop μ-loop
+cast-t c = omega (arith, next c .within)
 
 commit-term-requires : tie.Need-commit-term-requires Inv-loop μ-loop
 commit-term-requires c κs =
-    let i = c .before .before in
+    let i = c .before in
     let b = i .before .before .before .before .before in
     let a = b .args in
-    let l = i .before .loop in
     let u = a .last .0 in
-    let n = so-far i u (b .pre .1) (newly-is-set i) in (
-      turn-kept (a .states .now) (l .states) (a .at) u (l .t) (b .pre .0) (b .pre .1) n,
-      (more-left i, was-logged (a .states .now) (l .states) (a .at) u (l .t) (b .pre .0) (b .pre .1) n ∙ not-true _ (lowest i u (b .pre .1) (newly-is-set i) ∙ eq-eqb _ 1 (c .before .if1 .taken))),
+    let e = newly-is-set (i .before) in
+    let n = so-far i u (b .pre .1) e in (
+      turn-kept (a .states .now) (i .before .loop .states) (a .at) u (term i) (b .pre .0) (b .pre .1) n,
+      (next i .within, turn-free (a .states .now) (i .before .loop .states) (a .at) u (term i) (b .pre .0) (b .pre .1) n (at-most i u (b .pre .1) e) (is-new i u (b .pre .1) e)),
     )
 
-add-t : tie.Need-add-t Inv-loop μ-loop
-add-t c = omega arith
+shl-rest : tie.Need-shl-rest Inv-loop μ-loop
+shl-rest c = next (c .before .before .before .before) .within
+
+sub-rest : tie.Need-sub-rest Inv-loop μ-loop
+sub-rest c =
+    let i = c .before .before .before .before in
+    omega (arith, shifted i, next i .fits)
 
 loop-less : tie.Need-loop-less Inv-loop μ-loop
-loop-less c = omega (arith, more-left (c .before))
+loop-less c =
+    let i = c .before .before .before .before in
+    omega (arith, shifted i, next i .fewer)
 
 loop-again : tie.Need-loop-again Inv-loop μ-loop
 loop-again c =
-    let i = c .before in
-    let l = i .before .loop in
+    let i = c .before .before .before .before in
     let b = i .before .before .before .before .before in
-    let a = b .args in
-    let more = more-left i in
-    let halved : l .rest / 2 ≡ newly i / 2 ^ (l .t + 1) = ap (λ (x : ℕ). x / 2) (l .inv .1) ∙ shr-shr (newly i) (l .t) 1 in
-    ⊎-elim
-    (λ w. (
-      omega (arith, more),
-      halved,
+    let a = b .args in (
+      omega (arith, i .before .loop .inv .0),
+      term i + 1,
+      subst (λ (x : ℕ). Walked (newly (i .before)) (i .before .loop .rest - x) (term i + 1)) (sym (shifted i)) (next i .onward),
       λ u h e.
-          let at-most = within i u h e in (
-            omega arith,
-            subst (λ (s : List ℕ). Next (λ k. u < k) (a .at) (a .states .now) s (commitBelow (l .t + 1) (view (a .states .now) (a .at)))) (sym (w .5))
-                (turn-new (a .states .now) (l .states) (a .at) u (l .t) (b .pre .0) h (so-far i u h e) _ at-most (w .2 .ensures)),
-          ),
-    ))
-    (λ w. (
-      omega (arith, more),
-      halved,
-      λ u h e.
-          let at-most = within i u h e in (
-            omega arith,
-            subst (λ (s : List ℕ). Next (λ k. u < k) (a .at) (a .states .now) s (commitBelow (l .t + 1) (view (a .states .now) (a .at)))) (sym (w .1))
-                (turn-logged (a .states .now) (l .states) (a .at) u (l .t) (b .pre .0) h (so-far i u h e) (not-false _ (lowest i u h e ∙ ne-eqb _ 1 (w .0 .left)))),
-          ),
-    ))
-    (c .if1 .came)
+          let most = at-most i u h e in
+          (omega arith, turn-new (a .states .now) (i .before .loop .states) (a .at) u (term i) (b .pre .0) h (so-far i u h e) _ most (c .before .before .commit-term .ensures)),
+    )
 
 same-length : tie.Need-same-length Inv-loop μ-loop
 same-length c =
     let l = c .before in
     let b = l .before .before .before .before in
-    l .loop .inv .2 (b .args .last .0) (b .pre .1) (ap (λ (x : ℕ). x - bitAnd x (loggedSet (b .args .states .now) (b .args .at))) (l .before .before .up-to .ensures)) .1 .wrote .size
+    l .loop .inv .3 (b .args .last .0) (b .pre .1) (newly-is-set l) .1 .wrote .size
 
 returns : tie.Need-returns Inv-loop μ-loop
 returns c =
@@ -163,14 +147,13 @@ returns c =
     let b = l .before .before .before .before in
     let a = b .args in
     let u = a .last .0 in
-    let set = loggedSet (a .states .now) (a .at) in
-    let e : l .before .before .up-to .result - bitAnd (l .before .before .up-to .result) set ≡ newlySet u set =
-    ap (λ (x : ℕ). x - bitAnd x set) (l .before .before .up-to .ensures) in
-    let n = l .loop .inv .2 u (b .pre .1) e in
+    let e = newly-is-set l in
+    let n = l .loop .inv .3 u (b .pre .1) e in
+    let done = subst (λ (r : ℕ). Walked (newly l) r (l .loop .inv .1)) (c .loop-test .left) (l .loop .inv .2) in
     record {
       next =
-          turn-end (a .states .now) (l .loop .states) (a .at) u (l .loop .t) (b .pre .0) (b .pre .1) (n .1) (n .0)
-          (λ j g. ap (λ (x : ℕ). has x j) (sym e) ∙ none-left _ (l .loop .t) (sym (l .loop .inv .1) ∙ c .loop-test .left) j g);
+          turn-past (a .states .now) (l .loop .states) (a .at) u (l .loop .inv .1) (b .pre .0) (b .pre .1) (n .1) (suc u) (n .0) (omega arith)
+          (λ j g k. ap (λ (x : ℕ). has x j) (sym e) ∙ walked-all done j g);
       newly = e ∙ newly-is u (b .pre .0) (b .pre .1);
     }
 
@@ -186,8 +169,10 @@ commit-up-to-spec =
     slice-read-newly
     sub-newly
     loop-holds
+    cast-t
     commit-term-requires
-    add-t
+    shl-rest
+    sub-rest
     loop-less
     loop-again
     same-length

@@ -1,53 +1,90 @@
--- `protocol::paxos::greatest_quorum` meets its contract. The invariant: no term from t on has a quorum, so the greatest
--- below t is the answer.
+-- `protocol::paxos::greatest_quorum` meets its contract. The invariant: a term that is not left has no quorum.
 -- Assumes nothing.
 use borrow.Author.Needs.{needs}
-use Prim.Native.Nat.{ℕ, _-_, _/_, _%_, _^_, _≤_}
-use mathlib.Core.Bool.{false}
+use Prim.Native.Nat.{ℕ, _-_, _*_, _%_, _^_, _≤_, _<_}
+use mathlib.Core.Bool.{Bool, true, false, cond}
 use mathlib.Core.List.{List}
-use mathlib.Core.Path.{_≡_, refl, sym, ap, _∙_}
+use mathlib.Core.Path.{_≡_, refl, sym, ap, _∙_, subst}
 use native.Mathlib.Omega.{arith}
-use borrow.Author.Tests.{eq-eqb, ne-eqb}
-use lib.Dec.{leb}
+use lib.Count.{leadingZeros}
+use lib.Pow.{pow-pos}
 use Rattle.network.specs.Graph.{has}
-use Rattle.protocol.specs.Paxos.{size, majority, quorum, greatestQuorum}
-use Rattle.protocol.specs.View.{view, votesAt, pendingSet, pendingOf}
-use Rattle.protocol.proofs.Commit.{quorum-step}
+use Rattle.network.proofs.Sets.{never, has-out, one-shl}
+use Rattle.network.proofs.Lowest.{Highest, highest, has-le, has-less}
+use Rattle.phy.proofs.Masks.{has-zero}
+use Rattle.protocol.specs.Paxos.{quorum}
+use Rattle.protocol.specs.View.{view, pendingSet, pendingOf}
+use Rattle.protocol.proofs.Places.{same-or}
+use Rattle.protocol.proofs.Commit.{greatest-none, greatest-is}
+use Rattle.protocol.proofs.Frame.{pending-word}
 use Rattle.protocol.proofs.Kept.{pending-at, pending-none}
 use Rattle.protocol.proofs.paxos.greatest_quorum.Statement.{statement}
 use Rattle.protocol.proofs.paxos.greatest_quorum.Tie as tie
 
-pending-quorum : (b : List ℕ) (at t n : ℕ) → pendingSet b at / 2 ^ t % 2 ≡ 1 → quorum n (pendingOf b at t) ≡ leb (majority n) (size (votesAt b at t))
-unfolding has
-pending-quorum b at t n e = ap (quorum n) (pending-at b at t (eq-eqb (pendingSet b at / 2 ^ t % 2) 1 e))
+-- the terms of rest are pending, and no other term has a quorum
+abbrev Left : List ℕ → ℕ → ℕ → ℕ → Type 0
+Left b at n rest =
+    ((j : ℕ) → has rest j ≡ true → has (pendingSet b at) j ≡ true) ×
+    ((j : ℕ) → has rest j ≡ false → quorum n (pendingOf b at j) ≡ false)
 
-no-quorum : (b : List ℕ) (at t n : ℕ) → (pendingSet b at / 2 ^ t % 2 ≡ 1 → ⊥) → quorum n (pendingOf b at t) ≡ false
-unfolding has
-no-quorum b at t n e = ap (quorum n) (pending-none b at t (ne-eqb (pendingSet b at / 2 ^ t % 2) 1 e))
+-- one term less is left
+left-less : (b : List ℕ) (at n rest t : ℕ) → has rest t ≡ true → quorum n (pendingOf b at t) ≡ false → Left b at n rest → Left b at n (rest - 2 ^ t)
+left-less b at n rest t e q l = (
+  λ j h.
+      same-or (λ (x : Bool). cond x false (has rest j) ≡ true → has (pendingSet b at) j ≡ true) j t (λ p g. never g refl) (λ p g. l .0 j g)
+      (sym (has-less rest t j e) ∙ h),
+  λ j h.
+      same-or (λ (x : Bool). cond x false (has rest j) ≡ false → quorum n (pendingOf b at j) ≡ false) j t (λ p g. rw p q) (λ p g. l .1 j g)
+      (sym (has-less rest t j e) ∙ h),
+)
 
 abbrev Inv-loop : tie.InvT-loop
-Inv-loop states at n pending t₀ t = (t ≤ 64) × (greatestQuorum t n (view states at) ≡ greatestQuorum 64 n (view states at))
+Inv-loop states at n rest₀ rest = (rest < 2 ^ 64) × Left states at n rest
 
 abbrev μ-loop : tie.MeasureT-loop
-μ-loop states at n pending t₀ t = t
+μ-loop states at n rest₀ rest = rest
 
-add-pending : tie.Need-add-pending Inv-loop μ-loop
-add-pending c = search needs
+-- the highest term that is left
+abbrev term : tie.In-loop Inv-loop μ-loop → ℕ
+term c = 63 - leadingZeros 64 (c .before .loop .rest)
 
-mul-pending : tie.Need-mul-pending Inv-loop μ-loop
-mul-pending c = search needs
+top : (c : tie.In-loop Inv-loop μ-loop) → Highest 64 (c .before .loop .rest) (leadingZeros 64 (c .before .loop .rest))
+top c = highest 64 (c .before .loop .rest) (c .before .loop .inv .0) (c .loop-test .taken)
 
-shared-slice-read-pending : tie.Need-shared-slice-read-pending Inv-loop μ-loop
-shared-slice-read-pending c = search needs
+shifted : (c : tie.In-loop Inv-loop μ-loop) → 1 * 2 ^ term c % 2 ^ 64 ≡ 2 ^ term c
+shifted c = one-shl 64 (term c) (omega arith)
+
+fits : (c : tie.In-loop Inv-loop μ-loop) → 2 ^ term c ≤ c .before .loop .rest
+fits c = has-le (term c) (c .before .loop .rest) (top c .is)
+
+-- whether it has a quorum
+judged : (c : tie.After-is-majority Inv-loop μ-loop) →
+    let a = c .before .before .before .before .before .before .args in
+    quorum (a .n) (pendingOf (a .states .now) (a .at) (term (c .before .before))) ≡ c .is-majority .result
+judged c =
+    let i = c .before .before in
+    let a = i .before .before .before .before .args in
+    ap (quorum (a .n)) (pending-at (a .states .now) (a .at) (term i) (i .before .loop .inv .1 .0 (term i) (top i .is))) ∙ sym (c .is-majority .ensures)
+
+add-rest : tie.Need-add-rest Inv-loop μ-loop
+add-rest c = search needs
+
+mul-rest : tie.Need-mul-rest Inv-loop μ-loop
+mul-rest c = search needs
+
+shared-slice-read-rest : tie.Need-shared-slice-read-rest Inv-loop μ-loop
+shared-slice-read-rest c = search needs
 
 loop-holds : tie.Need-loop-holds Inv-loop μ-loop
-loop-holds c = (omega arith, refl)
+loop-holds c =
+    let a = c .before .before .args in
+    (pending-word (c .before .before .pre), (λ j e. e, λ j e. ap (quorum (a .n)) (pending-none (a .states .now) (a .at) j e)))
+
+cast-t : tie.Need-cast-t Inv-loop μ-loop
+cast-t c = omega (arith, top c .within)
 
 sub-t : tie.Need-sub-t Inv-loop μ-loop
-sub-t c = search needs
-
-shr-if1 : tie.Need-shr-if1 Inv-loop μ-loop
-shr-if1 c = search needs
+sub-t c = omega (arith, top c .within)
 
 add-is-majority : tie.Need-add-is-majority Inv-loop μ-loop
 add-is-majority c = omega arith
@@ -63,37 +100,42 @@ is-majority-requires c κs = search needs
 
 returns : tie.Need-returns Inv-loop μ-loop
 returns c =
-    let l = c .before .before .before .before .before in
-    let a = l .before .before .before .args in
-    let q = pending-quorum (a .states .now) (a .at) (l .loop .t - 1) (a .n) (c .before .before .before .if1 .taken) ∙ sym (c .before .is-majority .ensures) in
-    sym (rw (q ∙ c .if2 .taken) at (sym (l .loop .inv .1) ∙ quorum-step (l .loop .t) (a .n) (view (a .states .now) (a .at)) (omega arith)))
+    let i = c .before .before .before in
+    let a = i .before .before .before .before .args in
+    sym
+    (greatest-is 64 (a .n) (term i) (view (a .states .now) (a .at)) (omega arith) (judged (c .before) ∙ c .if1 .taken)
+    (λ u g h. i .before .loop .inv .1 .1 u (has-out (top i .above) u (omega (arith, top i .within)))))
+
+shl-rest : tie.Need-shl-rest Inv-loop μ-loop
+shl-rest c = omega arith
+
+sub-rest : tie.Need-sub-rest Inv-loop μ-loop
+sub-rest c =
+    let i = c .before .before .before in
+    omega (arith, shifted i, fits i)
 
 loop-less : tie.Need-loop-less Inv-loop μ-loop
-loop-less c = omega arith
+loop-less c =
+    let i = c .before .before .before in
+    omega (arith, shifted i, fits i, pow-pos (term i))
 
 loop-again : tie.Need-loop-again Inv-loop μ-loop
 loop-again c =
-    let l = c .before .before .before .before .before in
-    let a = l .before .before .before .args in
-    let q = pending-quorum (a .states .now) (a .at) (l .loop .t - 1) (a .n) (c .before .before .before .if1 .taken) ∙ sym (c .before .is-majority .ensures) in
-    (omega arith, sym (rw (q ∙ c .if2 .left) at (sym (l .loop .inv .1) ∙ quorum-step (l .loop .t) (a .n) (view (a .states .now) (a .at)) (omega arith))))
-
-loop-less-2 : tie.Need-loop-less-2 Inv-loop μ-loop
-loop-less-2 c = omega arith
-
-loop-again-2 : tie.Need-loop-again-2 Inv-loop μ-loop
-loop-again-2 c =
-    let l = c .before .before in
-    let a = l .before .before .before .args in
-    let q = no-quorum (a .states .now) (a .at) (l .loop .t - 1) (a .n) (c .if1 .left) in
-    (omega arith, sym (rw q at (sym (l .loop .inv .1) ∙ quorum-step (l .loop .t) (a .n) (view (a .states .now) (a .at)) (omega arith))))
+    let i = c .before .before .before in
+    let l = i .before .loop in
+    let a = i .before .before .before .before .args in (
+      omega (arith, l .inv .0),
+      subst (λ (x : ℕ). Left (a .states .now) (a .at) (a .n) (l .rest - x)) (sym (shifted i))
+          (left-less (a .states .now) (a .at) (a .n) (l .rest) (term i) (top i .is) (judged (c .before) ∙ c .if1 .left) (l .inv .1)),
+    )
 
 returns-2 : tie.Need-returns-2 Inv-loop μ-loop
-unfolding greatestQuorum
 returns-2 c =
     let l = c .before in
-    let e : l .loop .t ≡ 0 = omega arith in
-    rw e at (l .loop .inv .1)
+    let a = l .before .before .before .args in
+    sym
+    (greatest-none 64 (a .n) (view (a .states .now) (a .at))
+    (λ t h. l .loop .inv .1 .1 t (ap (λ (x : ℕ). has x t) (c .loop-test .left) ∙ has-zero t)))
 
 pub greatest-quorum-spec : {M : Type 1} → statement M
 greatest-quorum-spec =
@@ -101,19 +143,19 @@ greatest-quorum-spec =
     (tie.spec
     Inv-loop
     μ-loop
-    add-pending
-    mul-pending
-    shared-slice-read-pending
+    add-rest
+    mul-rest
+    shared-slice-read-rest
     loop-holds
+    cast-t
     sub-t
-    shr-if1
     add-is-majority
     mul-is-majority
     shared-slice-read-is-majority
     is-majority-requires
     returns
+    shl-rest
+    sub-rest
     loop-less
     loop-again
-    loop-less-2
-    loop-again-2
     returns-2)

@@ -1,55 +1,47 @@
--- `protocol::paxos::merge_votes_up_to` meets its contract. The invariant: the terms below t are done, and `rest` is what is
--- left of the set.
+-- `protocol::paxos::merge_votes_up_to` meets its contract. The invariant: the terms from the lowest one up to below t have the votes.
 -- Assumes nothing.
 use borrow.Author.Needs.{needs}
-use Prim.Native.Nat.{ℕ, _+_, _-_, _/_, _%_, _^_, _≤_, _<_}
-use mathlib.Core.Logic.{⊎-elim}
-use mathlib.Core.Path.{_≡_, sym, ap, _∙_, subst}
-use native.Mathlib.Nat.{div-one}
+use Prim.Native.Nat.{ℕ, _+_, _-_, _^_, _≤_, _<_}
+use mathlib.Core.Path.{_≡_, ap, _∙_, subst}
 use native.Mathlib.Omega.{arith}
-use borrow.Author.Tests.{eq-eqb, ne-eqb}
 use lib.Bits.{bitAnd, and-le-l}
-use lib.Dec.{eqb}
+use lib.Count.{trailingZeros, leadingZeros}
 use lib.ListN.{length}
-use lib.Pow.{shr-shr}
 use Rattle.network.specs.Graph.{has}
-use Rattle.phy.proofs.Masks.{bits-left, none-left}
+use Rattle.network.proofs.Sets.{has-below}
+use Rattle.network.proofs.Lowest.{Lowest, Highest, lowest, highest}
 use Rattle.protocol.specs.View.{pendingSet}
 use Rattle.protocol.proofs.Frame.{pending-word}
-use Rattle.protocol.proofs.Merges.{Merged, merged-none, merged-more, merged-skip, merge-next}
+use Rattle.protocol.proofs.Merges.{Merged, merged-none, merged-more, merge-next}
 use Rattle.protocol.proofs.paxos.merge_votes_up_to.Statement.{statement}
 use Rattle.protocol.proofs.paxos.merge_votes_up_to.Tie as tie
 
 abbrev Inv-loop : tie.InvT-loop
-Inv-loop states₀ at bitmap reach rest₀ t₀ states rest t =
-    (t ≤ 64) × (rest ≡ bitAnd (pendingSet states₀ at) reach / 2 ^ t) ×
-    Merged at states₀ bitmap (bitAnd (pendingSet states₀ at) reach) t states
+Inv-loop states₀ at bitmap reach rest first end t₀ states t =
+    (first ≤ t) × (t ≤ end) × (end ≤ 64) × Merged at states₀ bitmap first t states
 
 abbrev μ-loop : tie.MeasureT-loop
-μ-loop states₀ at bitmap reach rest₀ t₀ states rest t = 64 - t
+μ-loop states₀ at bitmap reach rest first end t₀ states t = end - t
 
 -- the set of the terms that get votes
-abbrev reached : tie.In-loop Inv-loop μ-loop → ℕ
+abbrev reached : tie.Else1 Inv-loop μ-loop → ℕ
 reached c =
-    let a = c .before .before .before .before .before .args in
-    bitAnd (pendingSet (a .states .now) (a .at)) (c .before .before .before .up-to .result)
+    let a = c .before .before .before .before .args in
+    bitAnd (pendingSet (a .states .now) (a .at)) (c .before .before .up-to .result)
 
-more-left : (c : tie.In-loop Inv-loop μ-loop) → c .before .loop .t < 64
-more-left c =
-    let l = c .before .loop in
-    let b = c .before .before .before .before .before in
-    let a = b .args in
-    bits-left 64 (reached c) (l .t)
-    (omega (arith, and-le-l (pendingSet (a .states .now) (a .at)) (c .before .before .before .up-to .result), pending-word (b .pre)))
-    (l .inv .0) (λ e. c .loop-test .taken (l .inv .1 ∙ e))
+word : (c : tie.Else1 Inv-loop μ-loop) → reached c < 2 ^ 64
+word c =
+    let b = c .before .before .before .before in
+    omega (arith, and-le-l (pendingSet (b .args .states .now) (b .args .at)) (c .before .before .up-to .result), pending-word (b .pre))
 
-fits : (c : tie.In-loop Inv-loop μ-loop) → c .before .before .before .before .before .args .at + 195 ≤ length (c .before .loop .states)
-fits c = omega (arith, c .before .loop .inv .2 .size, c .before .before .before .before .before .pre .fits)
+low : (c : tie.Else1 Inv-loop μ-loop) → Lowest 64 (reached c) (trailingZeros 64 (reached c))
+low c = lowest 64 (reached c) (word c) (c .if1 .left)
 
--- whether term t is in the set is the lowest bit of what is left
-lowest : (c : tie.In-loop Inv-loop μ-loop) → has (reached c) (c .before .loop .t) ≡ eqb (c .before .loop .rest % 2) 1
-unfolding has
-lowest c = ap (λ (x : ℕ). eqb (x % 2) 1) (sym (c .before .loop .inv .1))
+top : (c : tie.Else1 Inv-loop μ-loop) → Highest 64 (reached c) (leadingZeros 64 (reached c))
+top c = highest 64 (reached c) (word c) (c .if1 .left)
+
+fits : (c : tie.In-loop Inv-loop μ-loop) → c .before .before .before .before .before .before .args .at + 195 ≤ length (c .before .loop .states)
+fits c = omega (arith, c .before .loop .inv .3 .size, c .before .before .before .before .before .before .pre .fits)
 
 up-to-requires : tie.Need-up-to-requires Inv-loop μ-loop
 up-to-requires c κs = search needs
@@ -63,72 +55,79 @@ mul-rest c = search needs
 slice-read-rest : tie.Need-slice-read-rest Inv-loop μ-loop
 slice-read-rest c = search needs
 
+returns : tie.Need-returns Inv-loop μ-loop
+returns c =
+    let b = c .before .before .before .before in
+    let a = b .args in
+    merge-next (a .at) (a .states .now) (a .bitmap) 0 0 (a .states .now) (merged-none (a .at) (a .states .now) (a .bitmap) 0) (a .up-to-term .0)
+    (bitAnd (pendingSet (a .states .now) (a .at)) (c .before .before .up-to .result)) (b .pre) (omega arith)
+    (ap (bitAnd (pendingSet (a .states .now) (a .at))) (c .before .before .up-to .ensures))
+    (λ j h. absurd (omega arith)) (omega (arith, c .if1 .taken)) (λ h. absurd (omega arith))
+
+cast-first : tie.Need-cast-first Inv-loop μ-loop
+cast-first c = omega (arith, low c .within)
+
+cast-end : tie.Need-cast-end Inv-loop μ-loop
+cast-end c = omega (arith, top c .within)
+
+sub-end : tie.Need-sub-end Inv-loop μ-loop
+sub-end c = omega (arith, top c .within)
+
 loop-holds : tie.Need-loop-holds Inv-loop μ-loop
-loop-holds c = (omega arith, sym (div-one _), merged-none _ _ _ _)
+loop-holds c = (omega arith, omega (arith, has-below (top c .above) _ (low c .is)), omega arith, merged-none _ _ _ _)
 
 add-joined : tie.Need-add-joined Inv-loop μ-loop
-add-joined c = omega (arith, more-left (c .before))
+add-joined c = omega (arith, fits c)
 
 mul-joined : tie.Need-mul-joined Inv-loop μ-loop
-mul-joined c = omega (arith, more-left (c .before), fits (c .before))
+mul-joined c = omega (arith, fits c)
 
 slice-read-joined : tie.Need-slice-read-joined Inv-loop μ-loop
-slice-read-joined c = omega (arith, more-left (c .before .before), fits (c .before .before))
+slice-read-joined c = omega (arith, fits (c .before))
 
 joined-requires : tie.Need-joined-requires Inv-loop μ-loop
 joined-requires c κs = search needs
 
 add-states : tie.Need-add-states Inv-loop μ-loop
-add-states c = omega (arith, more-left (c .before .before .before))
+add-states c = omega (arith, fits (c .before .before))
 
 mul-states : tie.Need-mul-states Inv-loop μ-loop
-mul-states c = omega (arith, more-left (c .before .before .before), fits (c .before .before .before))
+mul-states c = omega (arith, fits (c .before .before))
 
 slice-write-states : tie.Need-slice-write-states Inv-loop μ-loop
-slice-write-states c = omega (arith, more-left (c .before .before .before), fits (c .before .before .before))
+slice-write-states c = omega (arith, fits (c .before .before))
 
 add-t : tie.Need-add-t Inv-loop μ-loop
-add-t c = omega (arith, more-left (c .before))
+add-t c = omega arith
 
 loop-less : tie.Need-loop-less Inv-loop μ-loop
-loop-less c = omega (arith, more-left (c .before))
+loop-less c = omega arith
 
 loop-again : tie.Need-loop-again Inv-loop μ-loop
 loop-again c =
-    let l = c .before .before .loop in
-    let b = c .before .before .before .before .before .before in
-    let a = b .args in
-    let more = more-left (c .before) in
-    let now-in = lowest (c .before) in
-    let halved : l .rest / 2 ≡ reached (c .before) / 2 ^ (l .t + 1) =
-    ap (λ (x : ℕ). x / 2) (l .inv .1) ∙ shr-shr (reached (c .before)) (l .t) 1 in
-    ⊎-elim
-    (λ w. (
-      omega (arith, more),
-      halved,
-      subst (Merged (a .at) (a .states .now) (a .bitmap) (reached (c .before)) (l .t + 1)) (sym (w .3))
-          (merged-more (a .at) (a .states .now) (a .bitmap) (reached (c .before)) (l .t) (l .states) (l .inv .2) _ more (b .pre .fits) (now-in ∙ eq-eqb _ 1 (w .0 .taken)) (w .2 .ensures)),
-    ))
-    (λ w. (
-      omega (arith, more),
-      halved,
-      subst (Merged (a .at) (a .states .now) (a .bitmap) (reached (c .before)) (l .t + 1)) (sym (w .1))
-          (merged-skip (a .at) (a .states .now) (a .bitmap) (reached (c .before)) (l .t) (l .states) (l .inv .2) (now-in ∙ ne-eqb _ 1 (w .0 .left))),
-    ))
-    (c .if1 .came)
+    let l = c .before .before .before .loop in
+    let a = c .before .before .before .before .before .before .before .before .args in
+    let f = c .before .before .before .before .before .before .before .before .pre .fits in (
+      omega arith,
+      omega arith,
+      l .inv .2,
+      merged-more (a .at) (a .states .now) (a .bitmap) _ (l .t) (l .states) (l .inv .3) _ (l .inv .0) (omega arith) (c .joined .ensures),
+    )
 
 same-length : tie.Need-same-length Inv-loop μ-loop
-same-length c = c .before .loop .inv .2 .size
+same-length c = c .before .loop .inv .3 .size
 
-returns : tie.Need-returns Inv-loop μ-loop
-returns c =
-    let l = c .before in
-    let b = l .before .before .before .before in
+returns-2 : tie.Need-returns-2 Inv-loop μ-loop
+returns-2 c =
+    let l = c .before .loop in
+    let e = c .before .before in
+    let b = e .before .before .before .before in
     let a = b .args in
-    let s = bitAnd (pendingSet (a .states .now) (a .at)) (l .before .before .up-to .result) in
-    merge-next (a .at) (a .states .now) (a .bitmap) s (l .loop .t) (l .loop .states) (l .loop .inv .2) (a .up-to-term .0) (b .pre)
-    (ap (bitAnd (pendingSet (a .states .now) (a .at))) (l .before .before .up-to .ensures))
-    (none-left s (l .loop .t) (sym (l .loop .inv .1) ∙ c .loop-test .left))
+    let done : 64 - leadingZeros 64 (reached e) ≡ l .t = omega arith in
+    let last : l .t - 1 ≡ 63 - leadingZeros 64 (reached e) = omega (arith, done) in
+    merge-next (a .at) (a .states .now) (a .bitmap) _ (l .t) (l .states) (l .inv .3) (a .up-to-term .0) (reached e) (b .pre) (omega arith)
+    (ap (bitAnd (pendingSet (a .states .now) (a .at))) (e .before .before .up-to .ensures))
+    (low e .below) (subst (λ (x : ℕ). reached e < 2 ^ x) done (top e .above)) (λ h. ap (has (reached e)) last ∙ top e .is)
 
 pub merge-votes-up-to-spec : {M : Type 1} → statement M
 merge-votes-up-to-spec =
@@ -140,6 +139,10 @@ merge-votes-up-to-spec =
     add-rest
     mul-rest
     slice-read-rest
+    returns
+    cast-first
+    cast-end
+    sub-end
     loop-holds
     add-joined
     mul-joined
@@ -152,4 +155,4 @@ merge-votes-up-to-spec =
     loop-less
     loop-again
     same-length
-    returns)
+    returns-2)

@@ -1,13 +1,12 @@
-use Prim.Native.Nat.{ℕ, _+_, _*_, _≤_}
+use Prim.Native.Nat.{ℕ, _+_, _*_}
 use mathlib.Core.Path.{_≡_, sym, ap, ap₂, _∙_}
-use mathlib.Core.List.{List, [], _∷_}
+use mathlib.Core.List.{List}
 use native.Mathlib.Omega.{arith}
 use borrow.Author.Needs.{needs}
 use denote.Ref.{now}
 use lib.Count.{ones}
 use lib.ListN.{length, set}
 use lib.Seq.{sets}
-use Rattle.random.specs.Table.{tabulate}
 use Rattle.random.proofs.Tables.{length-tabulate}
 use Rattle.protocol.specs.View.{loggedSet, termAt}
 use Rattle.protocol.proofs.Frame.{log-room, term-logged, logged-lt}
