@@ -1,6 +1,6 @@
 -- The lowest and the highest node of a set, a set without some of its nodes, and a set taken apart from its lowest node on, as a loop by
 -- `trailing_zeros` does. Assumes nothing.
-use mathlib.Core.Path.{_≡_, refl, sym, ap, _∙_, subst}
+use mathlib.Core.Path.{_≡_, refl, sym, ap, _∙_, subst, subst⁻¹}
 use mathlib.Core.Bool.{Bool, true, false, cond, not, _&&_}
 use mathlib.Core.Logic.{_⊎_, inl, inr, ⊎-elim}
 use Prim.Native.Nat.{ℕ, zero, suc, _+_, _-_, _*_, _/_, _%_, _^_, _≤_, _<_, min}
@@ -8,7 +8,7 @@ use native.Mathlib.Nat.{pow-suc, mod-lt, div-one, eq-or-lt-of-le}
 use native.Mathlib.Numerals.{one-add}
 use native.Mathlib.Omega.{arith}
 use borrow.Author.Tests.{eqb-true, eqb-false, leb-true, leb-false, ne-eqb}
-use lib.Bits.{bitAnd, and-step, and-le-l}
+use lib.Bits.{bitAnd, and-step, and-le-l, and-self}
 use lib.Count.{under, trailingZeros, leadingZeros, leading-top}
 use lib.Dec.{eqb, leb, eqb·zero-suc, eqb·suc-zero, eqb·suc-suc}
 use lib.Pow.{pow-pos, shr-shr, high}
@@ -169,15 +169,36 @@ has-zero j = has-out {n = 0} (omega arith) j (omega arith)
 pub walked-all : {s m : ℕ} → Walked s 0 m → (j : ℕ) → m ≤ j → has s j ≡ false
 walked-all x j l = x .inside j l ∙ has-zero j
 
--- t is the next node of s from m on
+pub nonzero : {x : ℕ} → (x ≡ 0 → ⊥) → 1 ≤ x
+nonzero p = ⊎-elim (λ e. absurd (p (sym e))) (λ l. l) (eq-or-lt-of-le (omega arith))
+
+-- a set without its lowest node
+drop-of : (w s t : ℕ) → (s ≡ 0 → ⊥) → (s % 2 ≡ 0 → bitAnd (s / 2) (s / 2 - 1) ≡ s / 2 - 2 ^ t) → (d : ℕ) → d < 2 → s % 2 ≡ d → bitAnd s (s - 1) ≡ s - 2 ^ under d t
+drop-of w s t p f zero l e =
+    let h : (s - 1) / 2 ≡ s / 2 - 1 = omega (arith, e, p) in
+    and-step s (s - 1) ∙ rw (h, f e, e) (omega (arith, e, pow-suc 2 t))
+drop-of w s t p f (suc zero) l e =
+    let h : (s - 1) / 2 ≡ s / 2 = omega (arith, e) in
+    let g : (s - 1) % 2 ≡ 0 = omega (arith, e) in
+    and-step s (s - 1) ∙ rw (h, g, and-self (s / 2)) (omega (arith, e))
+drop-of w s t p f (suc (suc d)) l e = absurd (omega (arith, l))
+
+drop-lowest : (w s : ℕ) → s < 2 ^ w → (s ≡ 0 → ⊥) → bitAnd s (s - 1) ≡ s - 2 ^ trailingZeros w s
+unfolding trailingZeros
+drop-lowest zero s h p = absurd (p (omega (arith, h)))
+drop-lowest (suc w) s h p =
+    drop-of w s (trailingZeros w (s / 2)) p
+    (λ e. drop-lowest w (s / 2) (omega (arith, h, pow-suc 2 w)) (λ q. p (omega (arith, q, e))))
+    (s % 2) (mod-lt s (omega arith)) refl
+
+-- t is the next node of s from m on; the code drops it by `rest & (rest - 1)`
 pub record Next (w s rest m t : ℕ) : Type 0 where
   pub within : t < w
   pub from : m ≤ t
   pub is : has s t ≡ true
   pub none : (j : ℕ) → m ≤ j → j < t → has s j ≡ false
-  pub fits : 2 ^ t ≤ rest
-  pub fewer : rest - 2 ^ t < rest
-  pub onward : Walked s (rest - 2 ^ t) (t + 1)
+  pub fewer : bitAnd rest (rest - 1) < rest
+  pub onward : Walked s (bitAnd rest (rest - 1)) (t + 1)
 
 pub walked-next : (w : ℕ) {s rest m : ℕ} → rest < 2 ^ w → (rest ≡ 0 → ⊥) → Walked s rest m → Next w s rest m (trailingZeros w rest)
 walked-next w {s} {rest} {m} h p x =
@@ -185,18 +206,19 @@ walked-next w {s} {rest} {m} h p x =
     let l = lowest w rest h p in
     let from : m ≤ t = ⊎-elim (λ u. leb-true m t u) (λ u. never (l .is) (x .after t (leb-false m t u))) (two (leb m t)) in
     let fits = has-le t rest (l .is) in
+    let drop = drop-lowest w rest h p in
     record {
       within = l .within;
       from = from;
       is = x .inside t from ∙ l .is;
       none = λ j a b. x .inside j a ∙ l .below j b;
-      fits = fits;
-      fewer = omega (arith, fits, pow-pos t);
-      onward = record {
-        part = omega (arith, x .part);
-        inside = λ j a. x .inside j (omega (arith, from, a)) ∙ sym (has-less rest t j (l .is) ∙ ap (λ (b : Bool). cond b false (has rest j)) (ne-eqb j t (λ e. absurd (omega (arith, e, a)))));
-        after = λ j b. has-less rest t j (l .is) ∙ gone j b (two (eqb j t));
-      };
+      fewer = omega (arith, drop, fits, pow-pos t);
+      onward = subst⁻¹ (λ (y : ℕ). Walked s y (t + 1)) drop
+          (record {
+            part = omega (arith, x .part);
+            inside = λ j a. x .inside j (omega (arith, from, a)) ∙ sym (has-less rest t j (l .is) ∙ ap (λ (b : Bool). cond b false (has rest j)) (ne-eqb j t (λ e. absurd (omega (arith, e, a)))));
+            after = λ j b. has-less rest t j (l .is) ∙ gone j b (two (eqb j t));
+          });
     }
   where
     gone : (j : ℕ) → j < trailingZeros w rest + 1 → (eqb j (trailingZeros w rest) ≡ true) ⊎ (eqb j (trailingZeros w rest) ≡ false) → cond (eqb j (trailingZeros w rest)) false (has rest j) ≡ false

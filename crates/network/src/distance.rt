@@ -25,7 +25,7 @@ fn neighbours(rows: &[u64; MAX_NODES], n: usize, edge: u64) -> u64
     while rest != 0 {
         let t = u64::trailing_zeros(rest) as usize;
         found |= rows[t];
-        rest -= 1u64 << t;
+        rest = rest & (rest - 1);
     }
     found
 }

@@ -23,14 +23,15 @@ unfolding attemptAll
 attemptAll-append h t [] ys = refl
 attemptAll-append h t (x ∷ xs) ys = attemptAll-append h (attempt h t x) xs ys
 
-pub tried-none : (rate : Float) (t : Tried) → TriedOn rate 0 [] t t
+pub tried-none : (rate : Float) (t : Tried) (w : List ℕ) → TriedOn rate 0 [] t w t w
 unfolding attemptAll
-tried-none rate t = record { attempts = omega arith; successes = omega arith; tried = λ seed r. (refl, r) }
+tried-none rate t w = record { size = refl; attempts = omega arith; successes = omega arith; tried = λ seed r. (refl, r) }
 
 -- first the receivers js, then ks
-pub tried-then : {rate : Float} {i k : ℕ} {js ks : List ℕ} {t u v : Tried} → TriedOn rate i js t u → TriedOn rate k ks u v → TriedOn rate (i + k) (js ++ ks) t v
+pub tried-then : {rate : Float} {i k : ℕ} {js ks : List ℕ} {t u v : Tried} {w x y : List ℕ} → TriedOn rate i js t w u x → TriedOn rate k ks u x v y → TriedOn rate (i + k) (js ++ ks) t w v y
 tried-then {rate} {js = js} {ks = ks} {t = t} a b =
     record {
+      size = b .size ∙ a .size;
       attempts = omega (arith, a .attempts, b .attempts);
       successes = omega (arith, a .successes, b .successes);
       tried = λ seed r.
@@ -40,9 +41,10 @@ tried-then {rate} {js = js} {ks = ks} {t = t} a b =
     }
 
 -- the same attempts under another name, or a looser bound
-pub tried-as : {rate : Float} {i k : ℕ} {js ks : List ℕ} {t u : Tried} → i ≤ k → js ≡ ks → TriedOn rate i js t u → TriedOn rate k ks t u
+pub tried-as : {rate : Float} {i k : ℕ} {js ks : List ℕ} {t u : Tried} {w x : List ℕ} → i ≤ k → js ≡ ks → TriedOn rate i js t w u x → TriedOn rate k ks t w u x
 tried-as {rate} {i} {k} {js} {ks} {t} {u} h e a =
     record {
+      size = a .size;
       attempts = omega (arith, a .attempts);
       successes = omega (arith, a .successes);
       tried = λ seed r. let p = a .tried seed r in (p .0 ∙ ap (attemptAll (heard rate seed) (triesOf t)) e, p .1);

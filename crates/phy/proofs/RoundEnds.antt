@@ -187,7 +187,6 @@ heldFlood set x =
       slot = x .slot;
       «next_snapshot» = x .«next_snapshot»;
       snapshots = x .snapshots;
-      source = x .source;
     }
 
 module _ (n first : ℕ) (packet : Packet) (x : Floods) (r : Delivered) (h h' b : List ℕ) (s : Standing) (most : n ≤ 64)

@@ -24,7 +24,6 @@ use Rattle.phy.specs.declared.slot.Settings.{Settings}
 use Rattle.phy.specs.declared.slot.Tried.{Tried}
 use Rattle.phy.specs.declared.snapshot.Shown.{Shown}
 use Rattle.phy.specs.declared.snapshot.Taken.{Taken}
-use Rattle.random.specs.declared.draws.DrawSource.{DrawSource}
 use Rattle.random.specs.Reception.{heard}
 use Rattle.phy.specs.Node.{tick, tickIn, transition, transitionIn, listens, floods, sleeps, isListening, isFlooding, isSleeping}
 use Rattle.phy.specs.Slot.{Setup, Shots, Standing, at, sumOf, ticked, moved, snapshot, receivers, attemptAll, triesIn, takeWhile, slotStep}
@@ -330,8 +329,8 @@ module _ (g : Settings) (rows : List ℕ) (seed : ℕ) (x : Floods) (e : List �
       let f : ones (x .flooding) ≡ count n (λ (j : ℕ). isFlooding (at (s .nodes) j)) = ap ones (st .flooding) ∙ ones-setOf n _ in
       omega (arith, total, a, f, three-states n (s .nodes))
 
-  pub slot-stands : (source : DrawSource)
-      → Stands n
+  pub slot-stands :
+      Stands n
       (record {
         listening = r .listening;
         flooding = r .flooding;
@@ -344,10 +343,9 @@ module _ (g : Settings) (rows : List ℕ) (seed : ℕ) (x : Floods) (e : List �
         slot = record { 0 = x .slot .0 + 1 };
         «next_snapshot» = taken .next;
         snapshots = taken .count;
-        source = source;
       })
       h b' (slotStep setup s)
-  slot-stands source =
+  slot-stands =
       subst (Stands n _ h b') arrives
       (record {
         listening = ap (λ (y : Awake). y .listening) awake-is ∙ listening-now n (g .repeats) (tried .reached) (s .nodes) before e p (st .listening) (st .flooding) q;

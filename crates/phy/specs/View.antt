@@ -44,12 +44,13 @@ shownOf n progress listening flooding =
 abbrev pub shotsOf : Taken → List ℕ → Shots
 shotsOf x buffer = record { next = x .next .0; count = x .count; buffer = buffer }
 
--- r is t after attempts at the receivers js, of which there are at most k
-pub record TriedOn (rate : Float) (k : ℕ) (js : List ℕ) (t r : Tried) : Type 0 where
+-- r is t after attempts at the receivers js, of which there are at most k; the words of the draws were w, and are w'
+pub record TriedOn (rate : Float) (k : ℕ) (js : List ℕ) (t : Tried) (w : List ℕ) (r : Tried) (w' : List ℕ) : Type 0 where
+  pub size : length w' ≡ length w
   pub attempts : r .attempts ≤ t .attempts + k
   pub successes : r .successes ≤ t .successes + k
-  pub tried : (seed : ℕ) → Ready rate seed (t .attempts) (t .source)
-      → (triesOf r ≡ attemptAll (heard rate seed) (triesOf t) js) × Ready rate seed (r .attempts) (r .source)
+  pub tried : (seed : ℕ) → Ready rate seed (t .attempts) w
+      → (triesOf r ≡ attemptAll (heard rate seed) (triesOf t) js) × Ready rate seed (r .attempts) w'
 
 -- the nodes after a slot in which the nodes of a set heard, and after which the nodes of another have no repeats left
 abbrev pub awakeAfter : ℕ → ℕ → Awake → Awake
@@ -107,11 +108,11 @@ pub record Stands (n : ℕ) (x : Flood) (h b : List ℕ) (s : Standing) : Type 0
   pub shots : shotsIn x b ≡ s .shots
 
 -- the draws are ready for some seed, and the definitions stand somewhere, with the queue e from place p on
-pub record Meets (g : Settings) (x : Flood) (e : List ℕ) (p : ℕ) (b : List ℕ) : Type 0 where
+pub record Meets (g : Settings) (x : Flood) (e : List ℕ) (p : ℕ) (w b : List ℕ) : Type 0 where
   pub seed : ℕ
   pub packets : List ℕ
   pub standing : Standing
-  pub ready : Ready (g .rate) seed (x .attempts) (x .source)
+  pub ready : Ready (g .rate) seed (x .attempts) w
   pub stands : Stands (g .nodes) x packets b standing
   pub queued : Queued (g .nodes) (g .repeats) e p (standing .nodes)
 
@@ -124,26 +125,28 @@ pub record Sound (g : Settings) (x : Flood) : Type 0 where
   pub successes : x .successes ≤ 2048 * x .slot .0
   pub next : x .«next_snapshot» .0 ≡ x .snapshots * g .interval
 
--- From x, with the queue e from place p on and the buffer b, the code came to r, e' and b' in one slot, and what held between slots holds
--- again; for each seed for which the draws are ready, it stands where the slot of the definitions leads.
-pub record Stepped (g : Settings) (rows : List ℕ) (p : ℕ) (x : Flood) (e b : List ℕ) (r : Flood) (e' b' : List ℕ) : Type 0 where
+-- From x, with the queue e from place p on, the draws' words w and the buffer b, the code came to r, e', w' and b' in one slot, and what
+-- held between slots holds again; for each seed for which the draws are ready, it stands where the slot of the definitions leads.
+pub record Stepped (g : Settings) (rows : List ℕ) (p : ℕ) (x : Flood) (e w b : List ℕ) (r : Flood) (e' w' b' : List ℕ) : Type 0 where
   pub sound : Sound g r
   pub slots : r .slot .0 ≡ x .slot .0 + 1
   pub room : length e' ≡ length e
+  pub words : length w' ≡ length w
   pub size : length b' ≡ length b
-  pub ready : (seed : ℕ) → Ready (g .rate) seed (x .attempts) (x .source) → Ready (g .rate) seed (r .attempts) (r .source)
-  pub stands : (seed : ℕ) → Ready (g .rate) seed (x .attempts) (x .source)
+  pub ready : (seed : ℕ) → Ready (g .rate) seed (x .attempts) w → Ready (g .rate) seed (r .attempts) w'
+  pub stands : (seed : ℕ) → Ready (g .rate) seed (x .attempts) w
       → (h : List ℕ) (s : Standing) → Stands (g .nodes) x h b s → Queued (g .nodes) (g .repeats) e p (s .nodes)
       → Stands (g .nodes) r h b' (slotStep (setupOf g rows seed) s)
       × Queued (g .nodes) (g .repeats) e' (placeAfter (g .repeats) p 1) (slotStep (setupOf g rows seed) s .nodes)
 
 -- The same of the slots of a round, of which there are at most so many; the queue e begins at place 0.
-pub record Slotted (g : Settings) (rows : List ℕ) (limit : ℕ) (x : Flood) (e b : List ℕ) (r : Flood) (b' : List ℕ) : Type 0 where
+pub record Slotted (g : Settings) (rows : List ℕ) (limit : ℕ) (x : Flood) (e w b : List ℕ) (r : Flood) (w' b' : List ℕ) : Type 0 where
   pub sound : Sound g r
   pub slots : r .slot .0 ≤ x .slot .0 + limit
+  pub words : length w' ≡ length w
   pub size : length b' ≡ length b
-  pub ready : (seed : ℕ) → Ready (g .rate) seed (x .attempts) (x .source) → Ready (g .rate) seed (r .attempts) (r .source)
-  pub stands : (seed : ℕ) → Ready (g .rate) seed (x .attempts) (x .source)
+  pub ready : (seed : ℕ) → Ready (g .rate) seed (x .attempts) w → Ready (g .rate) seed (r .attempts) w'
+  pub stands : (seed : ℕ) → Ready (g .rate) seed (x .attempts) w
       → (h : List ℕ) (s : Standing) → Stands (g .nodes) x h b s → Queued (g .nodes) (g .repeats) e 0 (s .nodes)
       → Stands (g .nodes) r h b' (slotsOf (setupOf g rows seed) limit s)
 
@@ -162,7 +165,6 @@ begunFlood n first x =
       slot = x .slot;
       «next_snapshot» = x .«next_snapshot»;
       snapshots = x .snapshots;
-      source = x .source;
     }
 
 -- whether node k's places of h are these numbers
@@ -180,13 +182,14 @@ pub record Delivers (n first : ℕ) (packet : List ℕ) (awake before : ℕ) (h 
   pub kept : (k : ℕ) → k < n → has awake k ≡ true → (m : ℕ) → m < 12 → getD h' (12 * k + m) 0 ≡ getD h (12 * k + m) 0
 
 -- The same of a whole round.
-pub record Rounded (g : Settings) (rows : List ℕ) (limit initiator : ℕ) (packet : Packet) (x : Flood) (h b : List ℕ) (r : Round) (h' b' : List ℕ) : Type 0 where
+pub record Rounded (g : Settings) (rows : List ℕ) (limit initiator : ℕ) (packet : Packet) (x : Flood) (w h b : List ℕ) (r : Round) (w' h' b' : List ℕ) : Type 0 where
   pub sound : Sound g (r .flood)
   pub slots : r .flood .slot .0 ≤ x .slot .0 + limit
+  pub words : length w' ≡ length w
   pub held : length h' ≡ length h
   pub size : length b' ≡ length b
-  pub ready : (seed : ℕ) → Ready (g .rate) seed (x .attempts) (x .source) → Ready (g .rate) seed (r .flood .attempts) (r .flood .source)
-  pub stands : (seed : ℕ) → Ready (g .rate) seed (x .attempts) (x .source)
+  pub ready : (seed : ℕ) → Ready (g .rate) seed (x .attempts) w → Ready (g .rate) seed (r .flood .attempts) w'
+  pub stands : (seed : ℕ) → Ready (g .rate) seed (x .attempts) w
       → (s : Standing) → Stands (g .nodes) x h b s
       → Stands (g .nodes) (r .flood) h' b' (round (setupOf g rows seed) limit initiator packet s .after)
       × (r .part ≡ round (setupOf g rows seed) limit initiator packet s .part)

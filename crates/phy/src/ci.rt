@@ -93,16 +93,17 @@ fn slots(
     limit: u64,
     flood: Flood,
     ends: &mut [u64],
+    words: &mut [u32],
     buffer: &mut [u64],
 ) -> Flood
-    requires { ⌜ Sound settings flood × (flood .slot .0 + limit < 2 ^ 40) × (64 ≤ length (now ends)) × Meets settings flood (now ends) 0 (now buffer) ⌝ }
-    ensures { λ r. ⌜ Slotted settings (now (rows .entry)) limit flood (now (ends .entry)) (now (buffer .entry)) r (now (buffer .exit)) ⌝ }
+    requires { ⌜ Sound settings flood × (flood .slot .0 + limit < 2 ^ 40) × (64 ≤ length (now ends)) × (24 ≤ length (now words)) × Meets settings flood (now ends) 0 (now words) (now buffer) ⌝ }
+    ensures { λ r. ⌜ Slotted settings (now (rows .entry)) limit flood (now (ends .entry)) (now (words .entry)) (now (buffer .entry)) r (now (words .exit)) (now (buffer .exit)) ⌝ }
 {
     let mut x = flood;
     let mut more = limit;
     let mut place = 0usize;
     while 0 < more {
-        x = slot(settings, rows, x, ends, place, buffer);
+        x = slot(settings, rows, x, ends, place, words, buffer);
         more -= 1;
         if x.flooding == 0 {
             return x;
@@ -145,16 +146,17 @@ pub fn flood_identical_round(
     initiator: NodeId,
     packet: Packet,
     flood: Flood,
+    words: &mut [u32],
     held: &mut [u64],
     buffer: &mut [u64],
 ) -> Round
-    requires { ⌜ Sound settings flood × (initiator .0 < settings .nodes) × (flood .slot .0 + limit < 2 ^ 40) × (384 ≤ length (now held)) × ((seed : ℕ) × (s : Standing) × Ready (settings .rate) seed (flood .attempts) (flood .source) × Stands (settings .nodes) flood (now held) (now buffer) s) ⌝ }
-    ensures { λ r. ⌜ Rounded settings (now (rows .entry)) limit (initiator .0) packet flood (now (held .entry)) (now (buffer .entry)) r (now (held .exit)) (now (buffer .exit)) ⌝ }
+    requires { ⌜ Sound settings flood × (initiator .0 < settings .nodes) × (flood .slot .0 + limit < 2 ^ 40) × (24 ≤ length (now words)) × (384 ≤ length (now held)) × ((seed : ℕ) × (s : Standing) × Ready (settings .rate) seed (flood .attempts) (now words) × Stands (settings .nodes) flood (now held) (now buffer) s) ⌝ }
+    ensures { λ r. ⌜ Rounded settings (now (rows .entry)) limit (initiator .0) packet flood (now (words .entry)) (now (held .entry)) (now (buffer .entry)) r (now (words .exit)) (now (held .exit)) (now (buffer .exit)) ⌝ }
 {
     let key = numbers(packet);
     let mut ends = [0u64; 64];
     let x = begin(settings, initiator, key, flood, &mut ends, held);
-    let mut ended = slots(settings, rows, limit, x, &mut ends, buffer);
+    let mut ended = slots(settings, rows, limit, x, &mut ends, words, buffer);
     let awake = ended.listening | ended.flooding;
     let done = deliver(settings.nodes, initiator, key, awake, ended.holding, held);
     ended.holding = done.holding;

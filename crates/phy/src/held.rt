@@ -45,7 +45,7 @@ pub fn holders(held: &[u64], set: u64, packet: [u64; 12]) -> u64
         if same_numbers(held, 12 * j, packet) {
             found |= 1u64 << j;
         }
-        rest -= 1u64 << j;
+        rest = rest & (rest - 1);
     }
     found
 }
@@ -59,6 +59,6 @@ pub fn give_all(held: &mut [u64], set: u64, packet: [u64; 12])
     while rest != 0 {
         let j = u64::trailing_zeros(rest) as usize;
         give(held, NodeId(j), packet);
-        rest -= 1u64 << j;
+        rest = rest & (rest - 1);
     }
 }

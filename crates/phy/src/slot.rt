@@ -4,7 +4,6 @@ use super::snapshot::Taken;
 use super::snapshot::take_snapshots;
 use network::units::NodeId;
 use network::units::Slot;
-use random::draws::DrawSource;
 use random::reception::receive;
 ghost use mathlib.Core.Path.{_≡_};
 ghost use mathlib.Core.List.{[], _∷_};
@@ -32,17 +31,16 @@ pub struct Awake {
     pub flooding: u64,
 }
 
-// The run's attempts and successes so far, the set of nodes that heard in this slot, and the draws.
+// The run's attempts and successes so far, and the set of nodes that heard in this slot.
 pub struct Tried {
     pub attempts: u64,
     pub successes: u64,
     pub reached: u64,
-    pub source: DrawSource,
 }
 
 // Where a run stands in its floods: the sets of the nodes that listen, that flood and that hold a
 // packet, and the slots that all nodes have spent in each state. The packets held stand in a lent
-// slice.
+// slice, and so do the words that the draws come from.
 pub struct Flood {
     pub listening: u64,
     pub flooding: u64,
@@ -55,54 +53,55 @@ pub struct Flood {
     pub slot: Slot,
     pub next_snapshot: Slot,
     pub snapshots: u64,
-    pub source: DrawSource,
 }
 
 // One attempt at node j.
-fn attempt(j: NodeId, rate: f64, t: Tried) -> Tried
-    requires { ⌜ (j .0 < 64) × (t .attempts + 1 < 2 ^ 64) × (t .successes + 1 < 2 ^ 64) ⌝ }
-    ensures { λ r. ⌜ TriedOn rate 1 (j .0 ∷ []) t r ⌝ }
+fn attempt(j: NodeId, rate: f64, words: &mut [u32], t: Tried) -> Tried
+    requires { ⌜ (j .0 < 64) × (t .attempts + 1 < 2 ^ 64) × (t .successes + 1 < 2 ^ 64) × (24 ≤ length (now words)) ⌝ }
+    ensures { λ r. ⌜ TriedOn rate 1 (j .0 ∷ []) t (now (words .entry)) r (now (words .exit)) ⌝ }
 {
     let at = j.0;
-    let source = t.source;
-    let a = receive(rate, source);
-    let rest = a.rest;
-    if a.heard {
-        Tried {
+    if receive(rate, words, t.attempts) {
+        return Tried {
             attempts: t.attempts + 1,
             successes: t.successes + 1,
             reached: t.reached | (1 << at),
-            source: rest,
-        }
-    } else {
-        Tried {
-            attempts: t.attempts + 1,
-            successes: t.successes,
-            reached: t.reached,
-            source: rest,
-        }
+        };
+    }
+    Tried {
+        attempts: t.attempts + 1,
+        successes: t.successes,
+        reached: t.reached,
     }
 }
 
 // One attempt at each node of a set, ascending.
-fn attempts_at(set: u64, rate: f64, t: Tried) -> Tried
-    requires { ⌜ (t .attempts + 64 < 2 ^ 64) × (t .successes + 64 < 2 ^ 64) ⌝ }
-    ensures { λ r. ⌜ TriedOn rate 64 (among 64 (hasNode set)) t r ⌝ }
+fn attempts_at(set: u64, rate: f64, words: &mut [u32], t: Tried) -> Tried
+    requires { ⌜ (t .attempts + 64 < 2 ^ 64) × (t .successes + 64 < 2 ^ 64) × (24 ≤ length (now words)) ⌝ }
+    ensures { λ r. ⌜ TriedOn rate 64 (among 64 (hasNode «set»)) t (now (words .entry)) r (now (words .exit)) ⌝ }
 {
     let mut tried = t;
     let mut rest = set;
     while rest != 0 {
         let j = u64::trailing_zeros(rest) as usize;
-        tried = attempt(NodeId(j), rate, tried);
-        rest -= 1u64 << j;
+        tried = attempt(NodeId(j), rate, words, tried);
+        rest = rest & (rest - 1);
     }
     tried
 }
 
 // Each flooding node tries its listening neighbours.
-fn attempts(rows: &[u64; 32], n: usize, listening: u64, flooding: u64, rate: f64, t: Tried) -> Tried
-    requires { ⌜ (n ≤ 32) × (listening < 2 ^ n) × (flooding < 2 ^ n) × (t .attempts + 2048 < 2 ^ 64) × (t .successes + 2048 < 2 ^ 64) ⌝ }
-    ensures { λ r. ⌜ TriedOn rate (64 * n) (receivers (now (rows .entry)) (hasNode flooding) (hasNode listening) n n) t r ⌝ }
+fn attempts(
+    rows: &[u64; 32],
+    n: usize,
+    listening: u64,
+    flooding: u64,
+    rate: f64,
+    words: &mut [u32],
+    t: Tried,
+) -> Tried
+    requires { ⌜ (n ≤ 32) × (listening < 2 ^ n) × (flooding < 2 ^ n) × (t .attempts + 2048 < 2 ^ 64) × (t .successes + 2048 < 2 ^ 64) × (24 ≤ length (now words)) ⌝ }
+    ensures { λ r. ⌜ TriedOn rate (64 * n) (receivers (now (rows .entry)) (hasNode flooding) (hasNode listening) n n) t (now (words .entry)) r (now (words .exit)) ⌝ }
 {
     if listening == 0 {
         return t;
@@ -111,8 +110,8 @@ fn attempts(rows: &[u64; 32], n: usize, listening: u64, flooding: u64, rate: f64
     let mut rest = flooding;
     while rest != 0 {
         let i = u64::trailing_zeros(rest) as usize;
-        tried = attempts_at(rows[i] & listening, rate, tried);
-        rest -= 1u64 << i;
+        tried = attempts_at(rows[i] & listening, rate, words, tried);
+        rest = rest & (rest - 1);
     }
     tried
 }
@@ -154,10 +153,11 @@ pub fn slot(
     x: Flood,
     ends: &mut [u64],
     place: usize,
+    words: &mut [u32],
     buffer: &mut [u64],
 ) -> Flood
-    requires { ⌜ Sound settings x × (x .slot .0 < 2 ^ 40) × (64 ≤ length (now ends)) × Meets settings x (now ends) place (now buffer) ⌝ }
-    ensures { λ r. ⌜ Stepped settings (now (rows .entry)) place x (now (ends .entry)) (now (buffer .entry)) r (now (ends .exit)) (now (buffer .exit)) ⌝ }
+    requires { ⌜ Sound settings x × (x .slot .0 < 2 ^ 40) × (64 ≤ length (now ends)) × (24 ≤ length (now words)) × Meets settings x (now ends) place (now words) (now buffer) ⌝ }
+    ensures { λ r. ⌜ Stepped settings (now (rows .entry)) place x (now (ends .entry)) (now (words .entry)) (now (buffer .entry)) r (now (ends .exit)) (now (words .exit)) (now (buffer .exit)) ⌝ }
 {
     let n = settings.nodes;
     let this = x.slot;
@@ -172,21 +172,19 @@ pub fn slot(
         },
         buffer,
     );
-    let source = x.source;
     let tried = attempts(
         rows,
         n,
         x.listening,
         x.flooding,
         settings.rate,
+        words,
         Tried {
             attempts: x.attempts,
             successes: x.successes,
             reached: 0,
-            source,
         },
     );
-    let rest = tried.source;
     let before = Awake {
         listening: x.listening,
         flooding: x.flooding,
@@ -204,6 +202,5 @@ pub fn slot(
         slot: Slot(this.0 + 1),
         next_snapshot: Slot(taken.next.0),
         snapshots: taken.count,
-        source: rest,
     }
 }

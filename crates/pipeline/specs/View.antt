@@ -2,6 +2,7 @@
 use Prim.Native.Nat.{ℕ, _+_, _*_, _≤_, _<_}
 use mathlib.Core.Path.{_≡_}
 use mathlib.Core.Bool.{Bool, cond}
+use lib.Dec.{leb}
 use mathlib.Core.List.{List, [], _∷_, _++_}
 use lib.ListN.{length, getD, take}
 use Rattle.random.specs.Table.{tabulate}
@@ -40,9 +41,13 @@ pub record Files (end : ℕ) (ts : List ℕ) (x : Recorded) (t : List ℕ) (r : 
 unfoldable pub statesOf : ℕ → List ℕ → List State
 statesOf n b = tabulate n (λ (j : ℕ). view b (195 * j))
 
+-- how many numbers the table of n nodes' states has: room for 4, 12 or 32 nodes
+abbrev pub tableSize : ℕ → ℕ
+tableSize n = cond (leb n 4) 780 (cond (leb n 12) 2340 6240)
+
 -- there is room for the nodes, and each is kept while the counter is c
 pub record AllKept (c n : ℕ) (b : List ℕ) : Type 0 where
-  pub room : length b ≡ 6240
+  pub room : length b ≡ tableSize n
   pub each : (j : ℕ) → j < n → Kept c b (195 * j)
 
 unfoldable pub sharedOf : ℕ → Carried → List ℕ → List ℕ → Shared

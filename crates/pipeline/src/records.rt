@@ -56,7 +56,7 @@ pub fn record_all(table: &mut [u64], x: Recorded, end: u64, newly: u64) -> Recor
     while rest != 0 {
         let t = u64::trailing_zeros(rest) as usize;
         r = record_one(table, r, end, t);
-        rest -= 1u64 << t;
+        rest = rest & (rest - 1);
     }
     r
 }

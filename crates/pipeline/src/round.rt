@@ -12,7 +12,7 @@ ghost use mathlib.Core.Path.{_≡_};
 ghost use mathlib.Core.Bool.{cond};
 ghost use Prim.Native.Nat.{ℕ, _+_, _≤_, _<_, _^_};
 ghost use Rattle.protocol.specs.View.{Carried};
-ghost use Rattle.pipeline.specs.Round.{latest as latestOf, onePiggyback};
+ghost use Rattle.pipeline.specs.Round.{latest, onePiggyback};
 ghost use Rattle.pipeline.specs.View.{Started, Starts, Sharing, Prepares, TakesTurn, Processes, withoutPiggyback};
 
 // The nodes' part after `prepare_round`, and the packet to be flooded.
@@ -47,7 +47,7 @@ pub fn prepare_round(
     initiator: NodeId,
     slot: Slot,
 ) -> Prepared
-    requires { ⌜ ((a : ℕ) × (b : ℕ) × Sharing n a b x (now states) (now table) × (a < 2 ^ 40)) × (initiator .0 < n) × (n ≤ 32) × (proposals ≤ 64) ⌝ }
+    requires { ⌜ ((a : ℕ) × (b : ℕ) × Sharing n a b x (now states) (now table) × (a < 2 ^ 40)) × (initiator .0 < n) × (n ≤ 32) × (proposals ≤ 64) × (2 ≤ n) ⌝ }
     ensures { λ r. ⌜ Prepares n proposals (initiator .0) (slot .0) x (now (states .entry)) (now (table .entry)) r (now (states .exit)) (now (table .exit)) ⌝ }
 {
     let at = 195 * initiator.0;
@@ -75,22 +75,21 @@ pub fn prepare_round(
     }
 }
 
-// The piggyback that a turn sets, or the one that was set before it.
-fn latest(turn: Piggyback, before: Piggyback) -> Piggyback
-    ensures { λ r. ⌜ r ≡ latestOf turn before ⌝ }
+// A turn's piggyback, if there is one, in the place of that before it, and counted.
+fn recovered(y: Shared, recovery: Piggyback) -> Shared
+    requires { ⌜ y .piggybacks < 2 ^ 40 ⌝ }
+    ensures { λ r. ⌜ r ≡ record { counter = y .counter; records = y .records; recorded = y .recorded; piggyback = latest recovery (y .piggyback); nacks = y .nacks; piggybacks = y .piggybacks + onePiggyback recovery } ⌝ }
 {
-    match turn {
-        Piggyback::None => before,
-        Piggyback::Of(t, d) => Piggyback::Of(t, d),
-    }
-}
-
-fn one_piggyback(p: Piggyback) -> u64
-    ensures { λ r. ⌜ r ≡ onePiggyback p ⌝ }
-{
-    match p {
-        Piggyback::None => 0,
-        Piggyback::Of(_, _) => 1,
+    match recovery {
+        Piggyback::None => y,
+        Piggyback::Of(t, d) => Shared {
+            counter: y.counter,
+            records: y.records,
+            recorded: y.recorded,
+            piggyback: Piggyback::Of(t, d),
+            nacks: y.nacks,
+            piggybacks: y.piggybacks + 1,
+        },
     }
 }
 
@@ -113,16 +112,11 @@ fn take_turn(
         terms: x.recorded,
     };
     let filed = record_all(table, before, slot.0, turn.newly);
-    let back = x.piggyback;
     let recovery = turn.recovery;
-    Shared {
-        counter: x.counter,
-        records: filed.count,
-        recorded: filed.terms,
-        piggyback: latest(recovery, back),
-        nacks: x.nacks,
-        piggybacks: x.piggybacks + one_piggyback(recovery),
-    }
+    let mut y = x;
+    y.records = filed.count;
+    y.recorded = filed.terms;
+    recovered(y, recovery)
 }
 
 // The same with no piggyback.
@@ -158,7 +152,7 @@ pub fn process_round(
     while rest != 0 {
         let j = u64::trailing_zeros(rest) as usize;
         y = take_turn(y, states, table, packet, NodeId(j), slot);
-        rest -= 1u64 << j;
+        rest = rest & (rest - 1);
     }
     y
 }

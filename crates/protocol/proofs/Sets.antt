@@ -3,11 +3,11 @@ use Prim.Native.Nat.{ℕ, zero, suc, _+_, _-_, _*_, _/_, _%_, _^_, _<_, max}
 use mathlib.Core.Bool.{true, false, cond}
 use mathlib.Core.Logic.{_⊎_, inl, inr}
 use mathlib.Core.Path.{_≡_, refl, sym, ap, _∙_}
-use native.Mathlib.Nat.{mod-lt, one-mul, zero-add, pow-suc, add-mul-div-right, div-eq-of-lt, zero-div}
+use native.Mathlib.Nat.{one-mul, zero-add, pow-suc, add-mul-div-right, div-eq-of-lt, zero-div}
 use native.Mathlib.Numerals.{add-one}
 use native.Mathlib.Omega.{arith}
 use lib.Arith.{lt-one}
-use lib.Bits.{bitAnd, bitOr, and-step, and-self, or-step, or-zero-l}
+use lib.Bits.{bitOr, or-step, or-zero-l}
 use lib.Count.{onesIn, ones, ones-step}
 use lib.Dec.{lit<, eqb, ltb}
 use borrow.Author.Tests.{eqb-true, eqb-false, ltb-true, ltb-false}
@@ -40,30 +40,15 @@ pub size-ones : (a : ℕ) → a < 2 ^ 64 → size a ≡ ones a
 unfolding size
 size-ones a h = size-in 64 a h
 
-ones-none : ones 0 ≡ 0
+one-bit : (i : ℕ) → ones (2 ^ i) ≡ 1
 unfolding ones
-ones-none = refl
+one-bit zero = refl
+one-bit (suc i) =
+    let half : 2 ^ suc i / 2 ≡ 2 ^ i = omega (arith, pow-suc 2 i) in
+    omega (arith, ones-step (2 ^ suc i), ap ones half, one-bit i, pow-suc 2 i)
 
--- a number that shares no digit with the one before it has one digit
-single-in : (k a : ℕ) → a < 2 ^ k → (a ≡ 0 → ⊥) → bitAnd a (a - 1) ≡ 0 → ones a ≡ 1
-single-in zero a h p e = absurd (p (lt-one h))
-single-in (suc k) a h p e = go (single-in k (a / 2) (half-lt k a h)) (a % 2) (mod-lt a (omega arith)) refl
-  where
-    upper : bitAnd (a / 2) ((a - 1) / 2) ≡ 0
-    upper = omega (arith, and-step a (a - 1), e)
-
-    go : ((a / 2 ≡ 0 → ⊥) → bitAnd (a / 2) (a / 2 - 1) ≡ 0 → ones (a / 2) ≡ 1) → (d : ℕ) → d < 2 → a % 2 ≡ d → ones a ≡ 1
-    go ih zero l q =
-        let half : (a - 1) / 2 ≡ a / 2 - 1 = omega (arith, q) in
-        omega (arith, ones-step a, q, ih (λ z. p (omega (arith, z, q))) (ap (bitAnd (a / 2)) (sym half) ∙ upper))
-    go ih (suc zero) l q =
-        let half : (a - 1) / 2 ≡ a / 2 = omega (arith, q) in
-        let alone : a / 2 ≡ 0 = sym (and-self (a / 2)) ∙ ap (bitAnd (a / 2)) (sym half) ∙ upper in
-        omega (arith, ones-step a, q, ap ones alone, ones-none)
-    go ih (suc (suc d)) l q = absurd (omega (arith, l))
-
-pub size-single : (a : ℕ) → a < 2 ^ 64 → (a ≡ 0 → ⊥) → bitAnd a (a - 1) ≡ 0 → size a ≡ 1
-size-single a h p e = size-ones a h ∙ single-in 64 a h p e
+pub size-vote : (i : ℕ) → i < 64 → size (vote i) ≡ 1
+size-vote i h = size-ones (2 ^ i) (pow-lt h) ∙ one-bit i
 
 -- one bit of a word
 pub bit-word : (t : ℕ) → t < 64 → (1 * 2 ^ t) % 2 ^ 64 ≡ 2 ^ t

@@ -2,12 +2,13 @@
 // place `at` on. By term its votes, a set of nodes (64 numbers), and the term whose data it carries,
 // or 64 for no data (64 numbers); the logged terms in commit order (64 numbers); the set of the
 // pending terms, the set of the logged ones, and one more than the last accepted term, 0 for none.
+use network::units::NodeId;
 use network::units::Term;
 use phy::packet::Data;
 use phy::packet::LastAccepted;
 use phy::packet::Piggyback;
 ghost use mathlib.Core.Path.{_≡_};
-ghost use mathlib.Core.Bool.{false};
+ghost use mathlib.Core.Bool.{false, _&&_};
 ghost use Prim.Native.Nat.{ℕ, _+_, _≤_, _<_, max};
 ghost use lib.Dec.{leb};
 ghost use Rattle.network.specs.Graph.{has, setOf};
@@ -98,33 +99,47 @@ pub fn merge_votes_up_to(states: &mut [u64], at: usize, up_to_term: Term, bitmap
     }
 }
 
-// Whether so many votes are a majority of n nodes. A vote of one node alone is not counted: a count
-// takes longer than this test.
+// Whether so many votes are a majority of n nodes.
 fn is_majority(votes: u64, n: usize) -> bool
     ensures { λ r. ⌜ r ≡ leb (majority n) (size votes) ⌝ }
 {
-    if votes == 0 {
-        return false;
-    }
-    if votes & (votes - 1) == 0 {
-        return n < 2;
-    }
     let k = u64::count_ones(votes) as usize;
     n / 2 + 1 <= k
 }
 
-// The greatest pending term that has a quorum, or none.
-pub fn greatest_quorum(states: &[u64], at: usize, n: usize) -> LastAccepted
-    requires { ⌜ Kept 64 (now states) at ⌝ }
+// Whether a term with these votes is pending and has a quorum. The node's own vote alone is none, and
+// is passed over before anything else is looked at.
+fn is_quorum(votes: u64, own: u64, pending: u64, t: usize, n: usize) -> bool
+    requires { ⌜ (t < 64) × (leb (majority n) (size own) ≡ false) ⌝ }
+    ensures { λ r. ⌜ r ≡ (has pending t && leb (majority n) (size votes)) ⌝ }
+{
+    if votes == own {
+        return false;
+    }
+    if (pending >> t) % 2 == 0 {
+        return false;
+    }
+    is_majority(votes, n)
+}
+
+// The greatest pending term that has a quorum, or none, of a node among two or more: from the highest
+// pending term down to the lowest, in a plain loop.
+pub fn greatest_quorum(states: &[u64], at: usize, node: NodeId, n: usize) -> LastAccepted
+    requires { ⌜ Kept 64 (now states) at × (node .0 < 64) × (2 ≤ n) ⌝ }
     ensures { λ r. ⌜ r ≡ greatestQuorum 64 n (view (now (states .entry)) at) ⌝ }
 {
-    let mut rest = states[at + 192];
-    while rest != 0 {
-        let t = 63 - u64::leading_zeros(rest) as usize;
-        if is_majority(states[at + t], n) {
+    let pending = states[at + 192];
+    if pending == 0 {
+        return LastAccepted::None;
+    }
+    let own = 1u64 << node.0;
+    let first = u64::trailing_zeros(pending) as usize;
+    let mut t = 64 - u64::leading_zeros(pending) as usize;
+    while first < t {
+        t -= 1;
+        if is_quorum(states[at + t], own, pending, t, n) {
             return LastAccepted::At(Term(t as u64));
         }
-        rest -= 1u64 << t;
     }
     LastAccepted::None
 }
@@ -163,7 +178,7 @@ pub fn commit_up_to(states: &mut [u64], at: usize, last: Term) -> u64
     while rest != 0 {
         let t = u64::trailing_zeros(rest) as u64;
         commit_term(states, at, Term(t));
-        rest -= 1u64 << t;
+        rest = rest & (rest - 1);
     }
     newly
 }

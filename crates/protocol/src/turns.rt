@@ -74,10 +74,10 @@ fn announce(
     data: Data,
     piggyback: Piggyback,
 ) -> Prepared
-    requires { ⌜ Kept 64 (now states) at × (node .0 < 64) ⌝ }
+    requires { ⌜ Kept 64 (now states) at × (node .0 < 64) × (2 ≤ n) ⌝ }
     ensures { λ r. ⌜ Announces at (now (states .entry)) r (now (states .exit)) (announce (node .0) n (current .0) (nack .0) «data» piggyback (view (now (states .entry)) at)) ⌝ }
 {
-    let newly = commit_to(states, at, greatest_quorum(states, at, n));
+    let newly = commit_to(states, at, greatest_quorum(states, at, node, n));
     let packet = Packet {
         current_term: current,
         last_accepted_term: last_of(states[at + 194]),
@@ -101,7 +101,7 @@ pub fn initiator_turn(
     proposes: bool,
     piggyback: Piggyback,
 ) -> Prepared
-    requires { ⌜ Kept counter (now states) at × ((counted proposes counter ≤ 64) × (node .0 < 64)) ⌝ }
+    requires { ⌜ Kept counter (now states) at × ((counted proposes counter ≤ 64) × (node .0 < 64) × (2 ≤ n)) ⌝ }
     ensures { λ r. ⌜ Initiates proposes counter piggyback at (now (states .entry)) r (now (states .exit)) (initiatorTurn (node .0) n counter proposes piggyback (view (now (states .entry)) at)) ⌝ }
 {
     let nack = nack_of(detect_gap(states, at, Term(counter)));

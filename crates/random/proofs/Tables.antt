@@ -9,7 +9,7 @@ use native.Mathlib.Omega.{arith}
 use borrow.Author.Count.{below-more}
 use lib.ListN.{length, getD, set, length-set}
 use lib.Seq.{ext-getD, getD-set-same, getD-set-other}
-use Rattle.random.specs.Table.{tabulate}
+use Rattle.random.specs.Table.{tabulate, Put}
 
 pub length-tabulate : {A : Type 0} (n : ℕ) (f : ℕ → A) → length (tabulate n f) ≡ n
 unfolding tabulate
@@ -65,3 +65,16 @@ filled-more {f} {n} {l} {i} v d h e =
 
 pub filled-all : {f : ℕ → ℕ} {n : ℕ} {l : List ℕ} {i : ℕ} → Filled f n l i → n ≤ i → l ≡ tabulate n f
 filled-all {f} {n} {l} d h = is-tabulate n f 0 l (d .size) (λ k b. d .places k (omega arith))
+
+-- words put in place one after the other
+pub put-none : (from l : List ℕ) (at : ℕ) → Put from at 0 l l
+put-none from l at = record { size = refl; kept = λ k h. refl; placed = λ k h. absurd (omega arith) }
+
+pub put-more : {from l₀ l : List ℕ} {at i : ℕ} → Put from at i l₀ l → at + i < length l → Put from at (i + 1) l₀ (set l (at + i) (getD from i 0))
+put-more {from} {l₀} {l} {at} {i} d h =
+    let v = getD from i 0 in
+    record {
+      size = length-set l (at + i) v ∙ d .size;
+      kept = λ k b. getD-set-other l (at + i) k v 0 (λ p. omega (arith, p)) ∙ d .kept k b;
+      placed = below-more _ i (λ k b. getD-set-other l (at + i) (at + k) v 0 (λ p. omega (arith, p)) ∙ d .placed k b) (getD-set-same l (at + i) v 0 h);
+    }

@@ -1,10 +1,10 @@
 -- The draws of a seed (document 01, "Units and draws").
-use Prim.Native.Nat.{ℕ, _+_, _*_, _/_, _%_, _^_, _≤_}
+use Prim.Native.Nat.{ℕ, _+_, _*_, _/_, _%_, _^_, _<_}
 use mathlib.Core.Path.{_≡_}
+use mathlib.Core.List.{List}
 use lib.ListN.{getD}
 use Rattle.random.specs.Seed.{keyOf}
 use Rattle.random.specs.ChaCha.{streamBlock}
-use Rattle.random.specs.declared.draws.DrawSource.{DrawSource}
 
 -- word w of a seed's key stream: its blocks one after the other, sixteen words each
 unfoldable pub streamWord : ℕ → ℕ → ℕ
@@ -14,12 +14,15 @@ streamWord seed w = getD (streamBlock (keyOf seed) (w / 16)) (w % 16) 0
 unfoldable pub draw : ℕ → ℕ → ℕ
 draw seed k = streamWord seed (2 * k) + streamWord seed (2 * k + 1) * 2 ^ 32
 
--- The source has given draws 0 to n - 1 of a seed, so that draw n is next: `blocks` blocks have been computed, the last of them is in
--- hand, and of its eight draws `used` are given. Before the first block none is in hand.
-pub record Before (seed n : ℕ) (s : DrawSource) : Type 0 where
-  pub blocks : ℕ
-  pub key : s .key ≡ keyOf seed
-  pub counter : s .counter ≡ blocks % 2 ^ 64
-  pub used : s .used ≤ 8
-  pub given : n + 8 ≡ 8 * blocks + s .used
-  pub hand : (b : ℕ) → blocks ≡ b + 1 → s .block ≡ streamBlock (keyOf seed) b
+-- 24 words hold where the draws stand: the key of a seed in places 0 to 7,
+abbrev pub Keyed : ℕ → List ℕ → Type 0
+Keyed seed w = (i : ℕ) → i < 8 → getD w i 0 ≡ getD (keyOf seed) i 0
+
+-- and a block of its stream in places 8 to 23
+abbrev pub Holds : ℕ → ℕ → List ℕ → Type 0
+Holds seed b w = (i : ℕ) → i < 16 → getD w (8 + i) 0 ≡ getD (streamBlock (keyOf seed) b) i 0
+
+-- Draw n of a seed is next: the key is in hand, and, unless n is the first of the eight draws of its block, so is the block.
+pub record Before (seed n : ℕ) (w : List ℕ) : Type 0 where
+  pub key : Keyed seed w
+  pub hand : (n % 8 ≡ 0 → ⊥) → Holds seed (n / 8) w

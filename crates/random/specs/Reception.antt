@@ -1,13 +1,13 @@
 -- Fraction and reception (document 01, "Units and draws").
 use Prim.Native.Nat.{ℕ, _/_, _^_}
 use mathlib.Core.Bool.{Bool, false, _||_}
+use mathlib.Core.List.{List}
 use mathlib.Core.Logic.{_⊎_}
 use lib.IntN.{pos}
 use lib.Dec.{T}
 use lib.Ieee as Ieee
 use lib.Ieee.{Float, fin, binary64}
 use Rattle.random.specs.Draws.{draw, Before}
-use Rattle.random.specs.declared.draws.DrawSource.{DrawSource}
 
 -- m / 2^53 as an f64, m the draw's top 53 bits; that it is exact is the law `fraction-exact`
 unfoldable pub fraction : ℕ → Float
@@ -25,6 +25,6 @@ received rate d = Ieee.le rate (fraction d)
 unfoldable pub heard : Float → ℕ → ℕ → Bool
 heard rate seed k = lossless rate || received rate (draw seed k)
 
--- the source is ready for attempt k: k draws are given, or none is ever taken
-abbrev pub Ready : Float → ℕ → ℕ → DrawSource → Type 0
-Ready rate seed k s = T (lossless rate) ⊎ Before seed k s
+-- the words are ready for attempt k: draw k is next, or none is ever taken
+abbrev pub Ready : Float → ℕ → ℕ → List ℕ → Type 0
+Ready rate seed k w = T (lossless rate) ⊎ Before seed k w

@@ -1,6 +1,5 @@
 // ChaCha after RFC 8439, section 2, with the number of double rounds as a parameter.
 ghost use mathlib.Core.Path.{_≡_};
-ghost use Prim.Native.Nat.{_<_};
 ghost use Rattle.random.specs.ChaCha as ChaCha;
 use super::word::rotate_left;
 
@@ -32,41 +31,101 @@ pub fn quarter_round(q: Quad) -> Quad
     }
 }
 
-// The quarter round at four places of the state.
-fn quarter_at(s: [u32; 16], x: usize, y: usize, z: usize, w: usize) -> [u32; 16]
-    requires { ⌜ (x < 16) × (y < 16) × (z < 16) × (w < 16) ⌝ }
-    ensures { λ r. ⌜ r ≡ ChaCha.quarterAt s x y z w ⌝ }
-{
-    let q = quarter_round(Quad {
-        a: s[x],
-        b: s[y],
-        c: s[z],
-        d: s[w],
-    });
-    let mut t = s;
-    t[x] = q.a;
-    t[y] = q.b;
-    t[z] = q.c;
-    t[w] = q.d;
-    t
-}
-
+// The quarter rounds on the four columns. They touch no word in common, so one instruction can do a
+// step of all four.
 fn column_round(s: [u32; 16]) -> [u32; 16]
     ensures { λ r. ⌜ r ≡ ChaCha.columnRound s ⌝ }
 {
-    let s1 = quarter_at(s, 0, 4, 8, 12);
-    let s2 = quarter_at(s1, 1, 5, 9, 13);
-    let s3 = quarter_at(s2, 2, 6, 10, 14);
-    quarter_at(s3, 3, 7, 11, 15)
+    let p = quarter_round(Quad {
+        a: s[0],
+        b: s[4],
+        c: s[8],
+        d: s[12],
+    });
+    let q = quarter_round(Quad {
+        a: s[1],
+        b: s[5],
+        c: s[9],
+        d: s[13],
+    });
+    let r = quarter_round(Quad {
+        a: s[2],
+        b: s[6],
+        c: s[10],
+        d: s[14],
+    });
+    let t = quarter_round(Quad {
+        a: s[3],
+        b: s[7],
+        c: s[11],
+        d: s[15],
+    });
+    [
+        p.a,
+        q.a,
+        r.a,
+        t.a,
+        p.b,
+        q.b,
+        r.b,
+        t.b,
+        p.c,
+        q.c,
+        r.c,
+        t.c,
+        p.d,
+        q.d,
+        r.d,
+        t.d,
+    ]
 }
 
+// The same on the four diagonals.
 fn diagonal_round(s: [u32; 16]) -> [u32; 16]
     ensures { λ r. ⌜ r ≡ ChaCha.diagonalRound s ⌝ }
 {
-    let s1 = quarter_at(s, 0, 5, 10, 15);
-    let s2 = quarter_at(s1, 1, 6, 11, 12);
-    let s3 = quarter_at(s2, 2, 7, 8, 13);
-    quarter_at(s3, 3, 4, 9, 14)
+    let p = quarter_round(Quad {
+        a: s[0],
+        b: s[5],
+        c: s[10],
+        d: s[15],
+    });
+    let q = quarter_round(Quad {
+        a: s[1],
+        b: s[6],
+        c: s[11],
+        d: s[12],
+    });
+    let r = quarter_round(Quad {
+        a: s[2],
+        b: s[7],
+        c: s[8],
+        d: s[13],
+    });
+    let t = quarter_round(Quad {
+        a: s[3],
+        b: s[4],
+        c: s[9],
+        d: s[14],
+    });
+    [
+        p.a,
+        q.a,
+        r.a,
+        t.a,
+        t.b,
+        p.b,
+        q.b,
+        r.b,
+        r.c,
+        t.c,
+        p.c,
+        q.c,
+        q.d,
+        r.d,
+        t.d,
+        p.d,
+    ]
 }
 
 // The state after that many double rounds, a column round and a diagonal round each.

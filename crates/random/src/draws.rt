@@ -1,30 +1,15 @@
 // The draws of a seed: ChaCha with eight rounds, its blocks counted from 0, and two words a draw.
 ghost use mathlib.Core.Path.{_≡_};
-ghost use Prim.Native.Nat.{ℕ, _+_, _*_, _^_, _<_};
+ghost use Prim.Native.Nat.{ℕ, _+_, _*_, _^_, _≤_};
 ghost use lib.ListN.{length};
 ghost use Rattle.random.specs.ChaCha as ChaCha;
-ghost use Rattle.random.specs.Draws.{Before, draw};
-ghost use Rattle.random.specs.Table.{tabulate};
+ghost use Rattle.random.specs.Draws.{Keyed, Holds, Before, draw};
+ghost use Rattle.random.specs.Table.{tabulate, Put};
 use super::chacha::block;
 use super::seed::key_of;
 
 // Four double rounds are eight rounds.
 const DOUBLE_ROUNDS: u32 = 4;
-
-// Where the draws of a seed stand: the block in hand, how many of its eight draws are used up, and
-// the number of the block after it.
-pub struct DrawSource {
-    pub key: [u32; 8],
-    pub block: [u32; 16],
-    pub counter: u64,
-    pub used: usize,
-}
-
-// A draw, and where the draws stand after it.
-pub struct Drawn {
-    pub draw: u64,
-    pub rest: DrawSource,
-}
 
 // The stream's block of that number: a 64-bit counter, low word first, and two zero words.
 fn stream_block(key: [u32; 8], counter: u64) -> [u32; 16]
@@ -42,50 +27,54 @@ fn pair(low: u32, high: u32) -> u64
     (high as u64) * 0x1_0000_0000 + (low as u64)
 }
 
-impl DrawSource {
-    // The draws of a seed, none taken. No block is computed before it is needed.
-    pub fn new(seed: u64) -> DrawSource
-        ensures { λ r. ⌜ Before seed 0 r ⌝ }
-    {
-        DrawSource {
-            key: key_of(seed),
-            block: [0u32; 16],
-            counter: 0,
-            used: 8,
-        }
+// Copies the words of `from` to `words`, from the place `at` on.
+fn put(from: &[u32], words: &mut [u32], at: usize)
+    requires { ⌜ at + length (now from) ≤ length (now words) ⌝ }
+    ensures { λ _. ⌜ Put (now (from .entry)) at (length (now (from .entry))) (now (words .entry)) (now (words .exit)) ⌝ }
+{
+    for i in 0..from.len() {
+        words[at + i] = from[i];
     }
+}
 
-    // The same draws with a draw left in the block in hand.
-    fn filled(self) -> DrawSource
-        ensures { λ r. ⌜ (r .used < 8) × ((seed n : ℕ) → Before seed n self → Before seed n r) ⌝ }
-    {
-        let used = self.used;
-        if used < 8 {
-            return self;
-        }
-        let counter = self.counter;
-        let key = self.key;
-        DrawSource {
-            key,
-            block: stream_block(key, counter),
-            counter: std::num::wrapping_add_u64(counter, 1),
-            used: 0,
-        }
-    }
+// Draw 0 of the seed is next. No block is computed before it is needed.
+pub fn begin_draws(words: &mut [u32], seed: u64)
+    requires { ⌜ 24 ≤ length (now words) ⌝ }
+    ensures { λ _. ⌜ (length (now (words .exit)) ≡ length (now (words .entry))) × Before seed 0 (now (words .exit)) ⌝ }
+{
+    let key = key_of(seed);
+    put(&key, words, 0);
+}
 
-    // The next draw.
-    pub fn next(self) -> Drawn
-        ensures { λ r. ⌜ ((seed n : ℕ) → Before seed n self → (r .draw ≡ draw seed n) × Before seed (n + 1) (r .rest)) ⌝ }
-    {
-        let mut d = self.filled();
-        let used = d.used;
-        let words = d.block;
-        d.used = used + 1;
-        Drawn {
-            draw: pair(words[2 * used], words[2 * used + 1]),
-            rest: d,
-        }
+// The block of that number, of the stream of the key in hand, becomes the block in hand.
+fn fill(words: &mut [u32], counter: u64)
+    requires { ⌜ 24 ≤ length (now words) ⌝ }
+    ensures { λ _. ⌜ (length (now (words .exit)) ≡ length (now (words .entry))) × ((seed : ℕ) → Keyed seed (now (words .entry)) → Keyed seed (now (words .exit)) × Holds seed counter (now (words .exit))) ⌝ }
+{
+    let key = [
+        words[0],
+        words[1],
+        words[2],
+        words[3],
+        words[4],
+        words[5],
+        words[6],
+        words[7],
+    ];
+    let block = stream_block(key, counter);
+    put(&block, words, 8);
+}
+
+// Draw k, where it is next. A block is computed when the first of its eight draws is taken.
+pub fn next_draw(words: &mut [u32], k: u64) -> u64
+    requires { ⌜ 24 ≤ length (now words) ⌝ }
+    ensures { λ r. ⌜ (length (now (words .exit)) ≡ length (now (words .entry))) × ((seed : ℕ) → Before seed k (now (words .entry)) → (r ≡ draw seed k) × Before seed (k + 1) (now (words .exit))) ⌝ }
+{
+    let used = (k % 8) as usize;
+    if used == 0 {
+        fill(words, k / 8);
     }
+    pair(words[8 + 2 * used], words[9 + 2 * used])
 }
 
 // Fills a slice with the draws of a seed, from draw 0 on.

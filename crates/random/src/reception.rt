@@ -1,8 +1,9 @@
 // A draw's fraction, and whether a reception succeeds.
 ghost use mathlib.Core.Path.{_≡_};
-ghost use Prim.Native.Nat.{ℕ, _+_};
+ghost use Prim.Native.Nat.{ℕ, _+_, _≤_};
+ghost use lib.ListN.{length};
 ghost use Rattle.random.specs.Reception.{fraction as fractionOf, heard, Ready};
-use super::draws::DrawSource;
+use super::draws::next_draw;
 
 // 2^-53.
 const STEP: f64 = 1.1102230246251565e-16;
@@ -14,26 +15,13 @@ pub fn fraction(draw: u64) -> f64
     ((draw >> 11) as f64) * STEP
 }
 
-// What one attempt gives: whether it was heard, and where the draws stand after it.
-pub struct Attempt {
-    pub heard: bool,
-    pub rest: DrawSource,
-}
-
-// One attempt at a loss rate. Where the rate is 0, nothing is lost and no draw is taken.
-pub fn receive(rate: f64, source: DrawSource) -> Attempt
-    ensures { λ r. ⌜ ((seed k : ℕ) → Ready rate seed k source → (r .heard ≡ heard rate seed k) × Ready rate seed (k + 1) (r .rest)) ⌝ }
+// One attempt, of number k, at a loss rate. Where the rate is 0, nothing is lost and no draw is taken.
+pub fn receive(rate: f64, words: &mut [u32], k: u64) -> bool
+    requires { ⌜ 24 ≤ length (now words) ⌝ }
+    ensures { λ r. ⌜ (length (now (words .exit)) ≡ length (now (words .entry))) × ((seed : ℕ) → Ready rate seed k (now (words .entry)) → (r ≡ heard rate seed k) × Ready rate seed (k + 1) (now (words .exit))) ⌝ }
 {
     if rate == 0.0 {
-        return Attempt {
-            heard: true,
-            rest: source,
-        };
+        return true;
     }
-    let next = source.next();
-    let rest = next.rest;
-    Attempt {
-        heard: fraction(next.draw) >= rate,
-        rest,
-    }
+    fraction(next_draw(words, k)) >= rate
 }

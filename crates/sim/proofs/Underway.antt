@@ -3,6 +3,7 @@ use Prim.Native.Nat.{ℕ, suc, _+_, _-_, _*_, _≤_, _<_}
 use mathlib.Core.Path.{_≡_, refl, sym, ap, subst, subst⁻¹, _∙_}
 use mathlib.Core.Bool.{Bool, false, cond, _&&_}
 use mathlib.Core.List.{List}
+use mathlib.Core.Logic.{inr}
 use native.Mathlib.Nat.{le-refl}
 use native.Mathlib.Numerals.{add-one}
 use native.Mathlib.Omega.{arith}
@@ -10,6 +11,7 @@ use lib.Dec.{leb, eqb, ltb}
 use lib.ListN.{length}
 use lib.Seq.{sets}
 use borrow.Author.Tests.{le-leb, lt-leb, eq-eqb, ne-eqb}
+use Rattle.random.specs.Draws.{Before}
 use Rattle.random.specs.Reception.{Ready}
 use Rattle.random.proofs.Tables.{length-tabulate}
 use Rattle.phy.specs.Slot.{Shots}
@@ -55,10 +57,11 @@ module _ {n : ℕ} {c : Config} {k : ℕ} {x : Run} {t : Tables} {b : List ℕ} 
       (cond (eqb (count-is i) (c .«num_proposals») && ltb (c .«num_proposals» + 5 * d) j) 2 (cond (ltb (c .«num_proposals» + 1000) j) 3 0))
 
 -- before the first round
-pub underway-new : (rows : List ℕ) (n d : ℕ) (c : Config) (b : List ℕ) (x : Run) (t : Tables) → Accepted rows n d c → NewRun n (c .seed) x → t ≡ zeros
+pub underway-new : (rows : List ℕ) (n d : ℕ) (c : Config) (b : List ℕ) (x : Run) (t : Tables) (words : List ℕ) → Accepted rows n d c → NewRun n x → length words ≡ 24 → Before (c .seed) 0 words
+    → t ≡ zeros n words
     → Underway (givenAs rows n d c) c (c .«num_proposals» + 1002) 0 x t b b
 unfolding run
-underway-new rows n d c b x t ok new e =
+underway-new rows n d c b x t words ok new size before e =
     let g = givenAs rows n d c in
     let all : c .«num_proposals» + 1002 - 0 ≡ c .«num_proposals» + 1002 = omega arith in
     subst⁻¹ (λ (y : Tables). Underway g c (c .«num_proposals» + 1002) 0 x y b b) e
@@ -71,9 +74,10 @@ underway-new rows n d c b x t ok new e =
         rounds = refl;
         sound = new .flood .sound (settingsOf n c 0) refl (ok .repeats-low) (ok .repeats-high) (ok .interval);
         sharing = new .sharing;
-        ready = subst⁻¹ (λ (k : ℕ). Ready (c .«loss_rate») (c .seed) k (x .flood .source)) (new .flood .untried) (new .flood .ready (c .«loss_rate»));
+        ready = subst⁻¹ (λ (k : ℕ). Ready (c .«loss_rate») (c .seed) k words) (new .flood .untried) (inr before);
         slots = omega (arith, new .flood .first);
         few = omega (arith, new .covered);
+        words-size = size;
         held-size = refl;
       };
       rest = ap (λ (m : ℕ). roundsFrom g m 0 (begin g b)) all;
@@ -142,6 +146,7 @@ progress-as u =
       ready = u .ready;
       slots = u .slots;
       few = u .few;
+      words-size = u .words-size;
       held-size = u .held-size;
     }
 

@@ -2,7 +2,6 @@
 use Prim.Native.Nat.{ℕ, _-_, _*_, _≤_}
 use mathlib.Core.Path.{_≡_}
 use mathlib.Core.List.{List}
-use lib.Ieee.{Float}
 use lib.ListN.{length, replicate}
 use Rattle.random.specs.Reception.{Ready}
 use Rattle.phy.specs.declared.slot.Settings.{Settings}
@@ -14,22 +13,23 @@ use Rattle.sim.specs.declared.run.Run.{Run}
 use Rattle.sim.specs.declared.run.Ended.{Ended}
 use Rattle.pipeline.specs.Round.{shortestLog}
 use Rattle.sim.specs.Run.{Given, Running, begin, roundsFrom, run}
-use Rattle.pipeline.specs.View.{Sharing, sharedOf}
+use Rattle.pipeline.specs.View.{Sharing, sharedOf, tableSize}
 
 -- the flood's settings, for snapshots that show this progress
 abbrev pub settingsOf : ℕ → Config → ℕ → Settings
 settingsOf n c progress =
     record { nodes = n; repeats = c .«flood_repeats»; interval = c .«snapshot_interval»; progress = progress; rate = c .«loss_rate» }
 
--- What the lent slices hold: the packets held, the Paxos states, and the starts and records.
+-- What the lent slices hold: the words of the draws, the packets held, the Paxos states, and the starts and records.
 pub record Tables : Type 0 where
+  pub words : List ℕ
   pub held : List ℕ
   pub states : List ℕ
   pub table : List ℕ
 
--- before the first round
-abbrev pub zeros : Tables
-zeros = record { held = replicate 384 0; states = replicate 6240 0; table = replicate 256 0 }
+-- before the first round of n nodes, with these words
+abbrev pub zeros : ℕ → List ℕ → Tables
+zeros n words = record { words = words; held = replicate 384 0; states = replicate (tableSize n) 0; table = replicate 256 0 }
 
 -- After k rounds of n nodes the code stands at x, with the tables t and the snapshot buffer b, and the run of the definitions at s.
 pub record Going (n : ℕ) (c : Config) (k : ℕ) (x : Run) (t : Tables) (b : List ℕ) (s : Running) : Type 0 where
@@ -39,9 +39,10 @@ pub record Going (n : ℕ) (c : Config) (k : ℕ) (x : Run) (t : Tables) (b : Li
   pub rounds : length (s .rounds) ≡ k
   pub sound : Sound (settingsOf n c 0) (x .flood)
   pub sharing : Sharing n k (32 * k) (x .shared) (t .states) (t .table)
-  pub ready : Ready (c .«loss_rate») (c .seed) (x .flood .attempts) (x .flood .source)
+  pub ready : Ready (c .«loss_rate») (c .seed) (x .flood .attempts) (t .words)
   pub slots : x .flood .slot .0 ≤ 4096 * k
   pub few : x .covered ≤ 32 * k
+  pub words-size : length (t .words) ≡ 24
   pub held-size : length (t .held) ≡ 384
 
 -- The same of a run that began with the buffer b₀ and may take this many rounds; snapshots show its progress.
@@ -60,18 +61,17 @@ pub record Ends (g : Given) (c : Config) (r : Ended) (t : Tables) (b₀ b : List
   pub few : r .rounds ≤ 1066
 
 -- a flood before the first round
-pub record NewFlood (n seed : ℕ) (x : Flood) : Type 0 where
-  pub stands : (g : Given) (b : List ℕ) → g .nodes ≡ n → Stands n x (zeros .held) b (begin g b .standing)
+pub record NewFlood (n : ℕ) (x : Flood) : Type 0 where
+  pub stands : (g : Given) (b : List ℕ) → g .nodes ≡ n → Stands n x (replicate 384 0) b (begin g b .standing)
   pub sound : (g : Settings) → g .nodes ≡ n → 1 ≤ g .repeats → g .repeats ≤ 64 → 1 ≤ g .interval → Sound g x
-  pub ready : (rate : Float) → Ready rate seed 0 (x .source)
   pub first : x .slot .0 ≡ 0
   pub untried : x .attempts ≡ 0
 
 -- a run before the first round
-pub record NewRun (n seed : ℕ) (x : Run) : Type 0 where
-  pub flood : NewFlood n seed (x .flood)
-  pub shared : (g : Given) (b : List ℕ) → g .nodes ≡ n → sharedOf n (x .shared) (zeros .states) (zeros .table) ≡ begin g b .shared
-  pub sharing : Sharing n 0 0 (x .shared) (zeros .states) (zeros .table)
+pub record NewRun (n : ℕ) (x : Run) : Type 0 where
+  pub flood : NewFlood n (x .flood)
+  pub shared : (g : Given) (b : List ℕ) → g .nodes ≡ n → sharedOf n (x .shared) (replicate (tableSize n) 0) (replicate 256 0) ≡ begin g b .shared
+  pub sharing : Sharing n 0 0 (x .shared) (replicate (tableSize n) 0) (replicate 256 0)
   pub covered : x .covered ≡ 0
   pub progress : x .progress ≡ 0
 

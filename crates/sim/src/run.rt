@@ -13,14 +13,16 @@ use phy::slot::Settings;
 use pipeline::round::prepare_round;
 use pipeline::round::process_round;
 use pipeline::shared::Shared;
-use random::draws::DrawSource;
+use random::draws::begin_draws;
 use text::listing::Summary;
 ghost use mathlib.Core.Path.{_≡_};
 ghost use mathlib.Core.Bool.{cond, _&&_};
 ghost use lib.Dec.{eqb, ltb};
 ghost use Prim.Native.Nat.{_+_, _*_, _^_, _≤_, _<_};
 ghost use lib.ListN.{length, replicate};
+ghost use Rattle.random.specs.Draws.{Before};
 ghost use Rattle.pipeline.specs.Round.{shortestLog};
+ghost use Rattle.pipeline.specs.View.{tableSize};
 ghost use Rattle.sim.specs.Run.{Running, runRound};
 ghost use Rattle.sim.specs.View.{Accepted, Finishes, givenAs};
 ghost use Rattle.sim.specs.Going.{Going, Ends, NewFlood, NewRun, summaryFrom};
@@ -40,12 +42,11 @@ pub struct Ended {
     pub ended: u64,
 }
 
-// The radios and draws before the first round: every node listens.
-fn new_flood(n: usize, seed: u64) -> Flood
+// The radios before the first round: every node listens.
+fn new_flood(n: usize) -> Flood
     requires { ⌜ n ≤ 32 ⌝ }
-    ensures { λ r. ⌜ NewFlood n seed r ⌝ }
+    ensures { λ r. ⌜ NewFlood n r ⌝ }
 {
-    let source = DrawSource::new(seed);
     Flood {
         listening: (1u64 << n) - 1,
         flooding: 0,
@@ -58,16 +59,15 @@ fn new_flood(n: usize, seed: u64) -> Flood
         slot: Slot(0),
         next_snapshot: Slot(0),
         snapshots: 0,
-        source,
     }
 }
 
 // A run before its first round.
-fn new_run(n: usize, seed: u64) -> Run
+fn new_run(n: usize) -> Run
     requires { ⌜ n ≤ 32 ⌝ }
-    ensures { λ r. ⌜ NewRun n seed r ⌝ }
+    ensures { λ r. ⌜ NewRun n r ⌝ }
 {
-    let flood = new_flood(n, seed);
+    let flood = new_flood(n);
     let shared = Shared {
         counter: 0,
         records: 0,
@@ -92,13 +92,14 @@ fn run_round(
     config: Config,
     k: u64,
     x: Run,
+    words: &mut [u32],
     held: &mut [u64],
     states: &mut [u64],
     table: &mut [u64],
     snapshots: &mut [u64],
 ) -> Run
-    requires { ⌜ Accepted (now graph) n diameter config × (k < 2 ^ 20) × ((s : Running) × Going n config k x (record { held = now held; states = now states; table = now table }) (now snapshots) s × (x .progress ≡ shortestLog (s .shared .states) n)) ⌝ }
-    ensures { λ r. ⌜ ((s : Running) → x .progress ≡ shortestLog (s .shared .states) n → Going n config k x (record { held = now (held .entry); states = now (states .entry); table = now (table .entry) }) (now (snapshots .entry)) s → Going n config (k + 1) r (record { held = now (held .exit); states = now (states .exit); table = now (table .exit) }) (now (snapshots .exit)) (runRound (givenAs (now (graph .entry)) n diameter config) k s)) ⌝ }
+    requires { ⌜ Accepted (now graph) n diameter config × (k < 2 ^ 20) × ((s : Running) × Going n config k x (record { words = now words; held = now held; states = now states; table = now table }) (now snapshots) s × (x .progress ≡ shortestLog (s .shared .states) n)) ⌝ }
+    ensures { λ r. ⌜ ((s : Running) → x .progress ≡ shortestLog (s .shared .states) n → Going n config k x (record { words = now (words .entry); held = now (held .entry); states = now (states .entry); table = now (table .entry) }) (now (snapshots .entry)) s → Going n config (k + 1) r (record { words = now (words .exit); held = now (held .exit); states = now (states .exit); table = now (table .exit) }) (now (snapshots .exit)) (runRound (givenAs (now (graph .entry)) n diameter config) k s)) ⌝ }
 {
     let initiator = NodeId((k % (n as u64)) as usize);
     let flood = x.flood;
@@ -123,6 +124,7 @@ fn run_round(
         initiator,
         packet,
         flood,
+        words,
         held,
         snapshots,
     );
@@ -159,17 +161,18 @@ fn rounds(
     n: usize,
     diameter: usize,
     config: Config,
+    words: &mut [u32],
     held: &mut [u64],
     states: &mut [u64],
     table: &mut [u64],
     snapshots: &mut [u64],
 ) -> Ended
-    requires { ⌜ Accepted (now graph) n diameter config × (now held ≡ replicate 384 0) × (now states ≡ replicate 6240 0) × (now table ≡ replicate 256 0) ⌝ }
-    ensures { λ r. ⌜ Ends (givenAs (now (graph .entry)) n diameter config) config r (record { held = now (held .exit); states = now (states .exit); table = now (table .exit) }) (now (snapshots .entry)) (now (snapshots .exit)) ⌝ }
+    requires { ⌜ Accepted (now graph) n diameter config × (length (now words) ≡ 24) × Before (config .seed) 0 (now words) × (now held ≡ replicate 384 0) × (now states ≡ replicate (tableSize n) 0) × (now table ≡ replicate 256 0) ⌝ }
+    ensures { λ r. ⌜ Ends (givenAs (now (graph .entry)) n diameter config) config r (record { words = now (words .exit); held = now (held .exit); states = now (states .exit); table = now (table .exit) }) (now (snapshots .entry)) (now (snapshots .exit)) ⌝ }
 {
     let proposals = config.num_proposals;
     let most = proposals + 1002;
-    let mut x = new_run(n, config.seed);
+    let mut x = new_run(n);
     let mut k = 0u64;
     while k < most {
         if config.max_slots <= x.flood.slot.0 {
@@ -186,6 +189,7 @@ fn rounds(
             config,
             k,
             x,
+            words,
             held,
             states,
             table,
@@ -239,7 +243,41 @@ fn summary_of(end: Ended, n: usize) -> Summary
     }
 }
 
-// The run: its summary, and the buffers filled.
+// The run over a table of states for so many nodes: its summary, and the buffers filled.
+fn run_over(
+    graph: &[u64; 32],
+    n: usize,
+    diameter: usize,
+    config: Config,
+    states: &mut [u64],
+    logs: &mut [u8],
+    records: &mut [u64],
+    snapshots: &mut [u64],
+) -> Summary
+    requires { ⌜ Accepted (now graph) n diameter config × (2080 ≤ length (now logs)) × (192 ≤ length (now records)) × (now states ≡ replicate (tableSize n) 0) ⌝ }
+    ensures { λ r. ⌜ Finishes (givenAs (now (graph .entry)) n diameter config) r (now (logs .entry)) (now (records .entry)) (now (snapshots .entry)) (now (logs .exit)) (now (records .exit)) (now (snapshots .exit)) ⌝ }
+{
+    let mut words = [0u32; 24];
+    begin_draws(&mut words, config.seed);
+    let mut held = [0u64; 384];
+    let mut table = [0u64; 256];
+    let end = rounds(
+        graph,
+        n,
+        diameter,
+        config,
+        &mut words,
+        &mut held,
+        states,
+        &mut table,
+        snapshots,
+    );
+    write_logs(states, n, logs);
+    write_records(&table, end.run.shared.records, records);
+    summary_of(end, n)
+}
+
+// The run: its summary, and the buffers filled. A table that fits few nodes is sooner zeroed.
 pub fn run_pipeline(
     graph: &[u64; 32],
     n: usize,
@@ -252,20 +290,41 @@ pub fn run_pipeline(
     requires { ⌜ Accepted (now graph) n diameter config × ((2080 ≤ length (now logs)) × (192 ≤ length (now records))) ⌝ }
     ensures { λ r. ⌜ Finishes (givenAs (now (graph .entry)) n diameter config) r (now (logs .entry)) (now (records .entry)) (now (snapshots .entry)) (now (logs .exit)) (now (records .exit)) (now (snapshots .exit)) ⌝ }
 {
-    let mut held = [0u64; 384];
-    let mut states = [0u64; 6240];
-    let mut table = [0u64; 256];
-    let end = rounds(
+    if n <= 4 {
+        let mut few = [0u64; 780];
+        return run_over(
+            graph,
+            n,
+            diameter,
+            config,
+            &mut few,
+            logs,
+            records,
+            snapshots,
+        );
+    }
+    if n <= 12 {
+        let mut some = [0u64; 2340];
+        return run_over(
+            graph,
+            n,
+            diameter,
+            config,
+            &mut some,
+            logs,
+            records,
+            snapshots,
+        );
+    }
+    let mut all = [0u64; 6240];
+    run_over(
         graph,
         n,
         diameter,
         config,
-        &mut held,
-        &mut states,
-        &mut table,
+        &mut all,
+        logs,
+        records,
         snapshots,
-    );
-    write_logs(&states, n, logs);
-    write_records(&table, end.run.shared.records, records);
-    summary_of(end, n)
+    )
 }

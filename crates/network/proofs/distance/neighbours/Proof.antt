@@ -1,39 +1,35 @@
 -- `network::distance::neighbours` meets its contract: before each turn it holds the union of the rows of the nodes of `edge` that are passed, those below m.
 -- Assumes nothing.
 use mathlib.Core.Path.{_≡_, subst, _∙_}
-use Prim.Native.Nat.{ℕ, _≤_, _<_, _+_, _*_, _%_, _^_, zero-le}
-use native.Mathlib.Nat.{le-refl}
+use Prim.Native.Nat.{ℕ, _≤_, _<_, _+_, _^_, zero-le}
 use native.Mathlib.Omega.{arith}
 use lib.Bits.{or-lt}
 use lib.Count.{trailingZeros}
 use lib.ListN.{getD}
 use lib.Pow.{pow-pos}
 use Rattle.network.specs.Graph.{has, any}
-use Rattle.network.proofs.Sets.{has-out, has-below, one-shl}
-use Rattle.network.proofs.Lowest.{Walked, Next, walked-none, walked-next, walked-all}
+use Rattle.network.proofs.Sets.{has-out, has-below}
+use Rattle.network.proofs.Lowest.{Walked, Next, walked-none, walked-next, walked-all, nonzero}
 use Rattle.network.proofs.Spread.{beside, beside-stop, beside-or, beside-is}
 use Rattle.network.proofs.distance.neighbours.Statement.{statement}
 use Rattle.network.proofs.distance.neighbours.Tie as tie
 
 abbrev Inv-loop : tie.InvT-loop
-Inv-loop rows n edge found₀ rest₀ found rest = (m : ℕ) × (m ≤ n) × Walked edge rest m × (rest ≤ edge) × (found < 2 ^ n) × ((j : ℕ) → has found j ≡ beside rows edge m j)
+Inv-loop rows n edge found₀ rest₀ found rest = (m : ℕ) × (m ≤ n) × Walked edge rest m × (found < 2 ^ n) × ((j : ℕ) → has found j ≡ beside rows edge m j)
 
 abbrev μ-loop : tie.MeasureT-loop
 μ-loop rows n edge found₀ rest₀ found rest = rest
 
 -- what the lowest node of the rest is
 next : (c : tie.In-loop Inv-loop μ-loop) → let l = c .before .loop in Next 64 (c .before .before .args .edge) (l .rest) (l .inv .0) (trailingZeros 64 (l .rest))
-next c = walked-next 64 (omega arith) (c .loop-test .taken) (c .before .loop .inv .2)
+next c = walked-next 64 (omega (arith, c .before .loop .inv .2 .part)) (c .loop-test .taken) (c .before .loop .inv .2)
 
 node : (c : tie.In-loop Inv-loop μ-loop) → trailingZeros 64 (c .before .loop .rest) < c .before .before .args .n
 node c = has-below (c .before .before .pre .1 .1) _ (next c .is)
 
-one : (c : tie.In-loop Inv-loop μ-loop) → let t = trailingZeros 64 (c .before .loop .rest) in 1 * 2 ^ t % 2 ^ 64 ≡ 2 ^ t
-one c = one-shl 64 _ (next c .within)
-
 loop-holds : tie.Need-loop-holds Inv-loop μ-loop
 unfolding beside any
-loop-holds c = (0, zero-le, walked-none (c .args .edge), le-refl (c .args .edge), pow-pos (c .args .n), λ j. has-out {n = 0} (pow-pos 0) j zero-le)
+loop-holds c = (0, zero-le, walked-none (c .args .edge), pow-pos (c .args .n), λ j. has-out {n = 0} (pow-pos 0) j zero-le)
 
 cast-t : tie.Need-cast-t Inv-loop μ-loop
 cast-t c = omega (arith, node c)
@@ -44,14 +40,11 @@ mul-found c = omega (arith, node c)
 element-copy-out-found : tie.Need-element-copy-out-found Inv-loop μ-loop
 element-copy-out-found c = omega (arith, node c)
 
-shl-rest : tie.Need-shl-rest Inv-loop μ-loop
-shl-rest c = next (c .before) .within
-
 sub-rest : tie.Need-sub-rest Inv-loop μ-loop
-sub-rest c = rw (one (c .before)) (next (c .before) .fits)
+sub-rest c = nonzero (c .before .loop-test .taken)
 
 loop-less : tie.Need-loop-less Inv-loop μ-loop
-loop-less c = rw (one (c .before)) (next (c .before) .fewer)
+loop-less c = next (c .before) .fewer
 
 loop-again : tie.Need-loop-again Inv-loop μ-loop
 loop-again c =
@@ -62,10 +55,9 @@ loop-again c =
     let x = next (c .before) in (
       t + 1,
       omega (arith, node (c .before)),
-      rw (one (c .before)) (x .onward),
-      rw (one (c .before)) (omega (arith, x .fewer, l .inv .3)),
-      or-lt (a .n) (l .found) (getD (a .rows .now) t 0) (l .inv .4) (b .before .pre .1 .0 .narrow t (node (c .before))),
-      beside-or (a .rows .now) (a .edge) (l .found) (l .inv .5) (x .from) (x .none) (x .is),
+      x .onward,
+      or-lt (a .n) (l .found) (getD (a .rows .now) t 0) (l .inv .3) (b .before .pre .1 .0 .narrow t (node (c .before))),
+      beside-or (a .rows .now) (a .edge) (l .found) (l .inv .4) (x .from) (x .none) (x .is),
     )
 
 returns : tie.Need-returns Inv-loop μ-loop
@@ -74,8 +66,8 @@ returns c =
     let a = c .before .before .args in
     let l = c .before .loop in
     let done : Walked (a .edge) 0 (l .inv .0) = subst (λ (r : ℕ). Walked (a .edge) r (l .inv .0)) (c .loop-test .left) (l .inv .2) in
-    beside-is (a .rows .now) (a .edge) (a .n) (l .found) (l .inv .4)
-    (λ j. l .inv .5 j ∙ beside-stop (a .rows .now) (a .edge) j (l .inv .1) (λ i m _. walked-all done i m))
+    beside-is (a .rows .now) (a .edge) (a .n) (l .found) (l .inv .3)
+    (λ j. l .inv .4 j ∙ beside-stop (a .rows .now) (a .edge) j (l .inv .1) (λ i m _. walked-all done i m))
 
 pub neighbours-spec : {M : Type 1} → statement M
 neighbours-spec =
@@ -87,7 +79,6 @@ neighbours-spec =
     cast-t
     mul-found
     element-copy-out-found
-    shl-rest
     sub-rest
     loop-less
     loop-again

@@ -70,7 +70,6 @@ returns c =
             slot = x .slot;
             «next_snapshot» = x .«next_snapshot»;
             snapshots = x .snapshots;
-            source = x .source;
           },
       ap (set (now (start .args .ends)) (start .args .settings .repeats - 1)) own,
       c .before .before .before .give .ensures,

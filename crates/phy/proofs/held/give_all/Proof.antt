@@ -1,9 +1,9 @@
-use Prim.Native.Nat.{ℕ, _+_, _-_, _≤_, _<_}
+use Prim.Native.Nat.{ℕ, _+_, _-_, _<_}
 use mathlib.Core.Path.{sym, subst⁻¹}
 use native.Mathlib.Omega.{arith}
 use lib.Count.{trailingZeros}
-use Rattle.network.proofs.Lowest.{Walked, Next, walked-none, walked-all, walked-next}
-use Rattle.network.proofs.Sets.{has-below, one-shl}
+use Rattle.network.proofs.Lowest.{Walked, Next, walked-none, walked-all, walked-next, nonzero}
+use Rattle.network.proofs.Sets.{has-below}
 use Rattle.phy.proofs.Numbers.{GivingAll, giving-all-none, giving-all-more, giving-all-end}
 use Rattle.phy.proofs.held.give_all.Statement.{statement}
 use Rattle.phy.proofs.held.give_all.Tie as tie
@@ -31,14 +31,11 @@ give-requires c κs =
     let pre = c .before .before .before .before .pre in
     (pre .0, omega (arith, node (c .before), pre .1, c .before .before .loop .inv .2 .size))
 
-shl-rest : tie.Need-shl-rest Inv-loop μ-loop
-shl-rest c = omega (arith, node (c .before .before .before .before))
-
 sub-rest : tie.Need-sub-rest Inv-loop μ-loop
-sub-rest c = let n = next (c .before .before .before .before) in subst⁻¹ (λ (x : ℕ). x ≤ c .before .before .before .before .before .loop .rest) (one-shl 64 _ (n .within)) (n .fits)
+sub-rest c = nonzero (c .before .before .before .before .loop-test .taken)
 
 loop-less : tie.Need-loop-less Inv-loop μ-loop
-loop-less c = let n = next (c .before .before .before .before) in omega (arith, one-shl 64 _ (n .within), n .fewer)
+loop-less c = next (c .before .before .before .before) .fewer
 
 loop-again : tie.Need-loop-again Inv-loop μ-loop
 loop-again c =
@@ -47,7 +44,7 @@ loop-again c =
     let set = c .before .before .before .before .before .before .before .args .set in
     let t = trailingZeros 64 (l .rest) in (
       t + 1,
-      subst⁻¹ (λ (x : ℕ). Walked set (l .rest - x) (t + 1)) (one-shl 64 t (n .within)) (n .onward),
+      n .onward,
       giving-all-more (l .inv .2) n (c .before .before .give .ensures),
     )
 
@@ -69,7 +66,6 @@ give-all-spec =
     loop-holds
     cast-j
     give-requires
-    shl-rest
     sub-rest
     loop-less
     loop-again

@@ -6,8 +6,8 @@ use native.Mathlib.Omega.{arith}
 use denote.Ref.{now}
 use lib.Count.{trailingZeros}
 use Rattle.network.specs.Graph.{has, setOf}
-use Rattle.network.proofs.Lowest.{Walked, Next, walked-none, walked-all, walked-next}
-use Rattle.network.proofs.Sets.{has-below, one-shl, setOf-with, setOf-without}
+use Rattle.network.proofs.Lowest.{Walked, Next, walked-none, walked-all, walked-next, nonzero}
+use Rattle.network.proofs.Sets.{has-below, setOf-with, setOf-without}
 use Rattle.phy.specs.View.{sameNumbers}
 use Rattle.phy.proofs.Masks.{setOf-skip}
 use Rattle.phy.proofs.held.holders.Statement.{statement}
@@ -41,14 +41,11 @@ same-numbers-requires c κs = let pre = c .before .before .before .pre in (pre .
 shl-found : tie.Need-shl-found Inv-loop μ-loop
 shl-found c = omega (arith, node (c .before .before))
 
-shl-rest : tie.Need-shl-rest Inv-loop μ-loop
-shl-rest c = omega (arith, node (c .before .before))
-
 sub-rest : tie.Need-sub-rest Inv-loop μ-loop
-sub-rest c = let n = next (c .before .before) in subst⁻¹ (λ (x : ℕ). x ≤ c .before .before .before .loop .rest) (one-shl 64 _ (n .within)) (n .fits)
+sub-rest c = nonzero (c .before .before .loop-test .taken)
 
 loop-less : tie.Need-loop-less Inv-loop μ-loop
-loop-less c = let n = next (c .before .before) in omega (arith, one-shl 64 _ (n .within), n .fewer)
+loop-less c = next (c .before .before) .fewer
 
 loop-again : tie.Need-loop-again Inv-loop μ-loop
 loop-again c =
@@ -60,7 +57,7 @@ loop-again c =
     let so-far : l .found ≡ setOf t f = l .inv .3 ∙ sym (setOf-skip (l .inv .0) t f (n .from) (λ i u v. ap (λ (b : Bool). b && sameNumbers (now (a .held)) (a .packet) i) (n .none i u v))) in
     let test : (b : Bool) → c .before .same-numbers .result ≡ b → f t ≡ b = λ b e. ap₂ _&&_ (n .is) (sym (c .before .same-numbers .ensures) ∙ e) in (
       t + 1,
-      subst⁻¹ (λ (x : ℕ). Walked (a .set) (l .rest - x) (t + 1)) (one-shl 64 t (n .within)) (n .onward),
+      n .onward,
       omega (arith, node (c .before .before)),
       ⊎-elim (λ w. w .1 ∙ setOf-with 64 t f (n .within) so-far (test true (w .0 .taken))) (λ w. w .1 ∙ setOf-without t f so-far (test false (w .0 .left))) (c .if1 .came),
     )
@@ -83,7 +80,6 @@ holders-spec =
     mul-same-numbers
     same-numbers-requires
     shl-found
-    shl-rest
     sub-rest
     loop-less
     loop-again

@@ -5,8 +5,7 @@ use mathlib.Core.List.{List, [], _∷_, _++_}
 use native.Mathlib.Omega.{arith}
 use lib.Count.{trailingZeros}
 use Rattle.network.specs.Graph.{has}
-use Rattle.network.proofs.Lowest.{Walked, Next, walked-none, walked-all, walked-next}
-use Rattle.network.proofs.Sets.{one-shl}
+use Rattle.network.proofs.Lowest.{Walked, Next, walked-none, walked-all, walked-next, nonzero}
 use Rattle.phy.specs.Slot.{among}
 use Rattle.phy.specs.View.{TriedOn}
 use Rattle.phy.proofs.Attempts.{among-skip, among-more, tried-none, tried-then, tried-as}
@@ -14,55 +13,55 @@ use Rattle.phy.proofs.slot.attempts_at.Statement.{statement}
 use Rattle.phy.proofs.slot.attempts_at.Tie as tie
 
 abbrev Inv-loop : tie.InvT-loop
-Inv-loop set rate tried₀ rest₀ tried rest = (m : ℕ) × Walked set rest m × (m ≤ 64) × TriedOn rate m (among m (has set)) tried₀ tried
+Inv-loop set rate words₀ tried₀ rest₀ words tried rest = (m : ℕ) × Walked set rest m × (m ≤ 64) × TriedOn rate m (among m (has set)) tried₀ words₀ tried words
 
 abbrev μ-loop : tie.MeasureT-loop
-μ-loop set rate tried₀ rest₀ tried rest = rest
+μ-loop set rate words₀ tried₀ rest₀ words tried rest = rest
 
-next : (c : tie.In-loop Inv-loop μ-loop) → Next 64 (c .before .before .args .set) (c .before .loop .rest) (c .before .loop .inv .0) (trailingZeros 64 (c .before .loop .rest))
+next : (c : tie.In-loop Inv-loop μ-loop) → Next 64 (c .before .before .before .args .set) (c .before .loop .rest) (c .before .loop .inv .0) (trailingZeros 64 (c .before .loop .rest))
 next c = walked-next 64 (omega (arith, c .before .loop .inv .1 .part)) (c .loop-test .taken) (c .before .loop .inv .1)
 
 loop-holds : tie.Need-loop-holds Inv-loop μ-loop
 unfolding among
-loop-holds c = (0, walked-none _, omega arith, tried-none _ _)
+loop-holds c = (0, walked-none _, omega arith, tried-none _ _ _)
 
 cast-j : tie.Need-cast-j Inv-loop μ-loop
 cast-j c = omega (arith, next c .within)
 
 attempt-requires : tie.Need-attempt-requires Inv-loop μ-loop
 attempt-requires c κs =
-    let tried = c .before .loop .inv .3 in
-    let l = next c .within in
-    let pre = c .before .before .pre in
-    (l, omega (arith, tried .attempts, next c .from, l, pre .0), omega (arith, tried .successes, next c .from, l, pre .1))
-
-shl-rest : tie.Need-shl-rest Inv-loop μ-loop
-shl-rest c = omega (arith, next (c .before) .within)
+    let tried = c .before .before .loop .inv .3 in
+    let n = next (c .before) in
+    let pre = c .before .before .before .before .pre in
+    (n .within, omega (arith, tried .attempts, n .from, n .within, pre .0), omega (arith, tried .successes, n .from, n .within, pre .1), omega (arith, tried .size, pre .2))
 
 sub-rest : tie.Need-sub-rest Inv-loop μ-loop
-sub-rest c = let n = next (c .before) in subst⁻¹ (λ (x : ℕ). x ≤ c .before .before .loop .rest) (one-shl 64 _ (n .within)) (n .fits)
+sub-rest c = nonzero (c .before .before .before .before .loop-test .taken)
 
 loop-less : tie.Need-loop-less Inv-loop μ-loop
-loop-less c = let n = next (c .before) in omega (arith, one-shl 64 _ (n .within), n .fewer)
+loop-less c = next (c .before .before .before .before) .fewer
 
 loop-again : tie.Need-loop-again Inv-loop μ-loop
 loop-again c =
-    let n = next (c .before) in
-    let l = c .before .before .loop in
-    let f = has (c .before .before .before .args .set) in
+    let n = next (c .before .before .before .before) in
+    let l = c .before .before .before .before .before .loop in
+    let f = has (c .before .before .before .before .before .before .before .args .set) in
     let t = trailingZeros 64 (l .rest) in (
       t + 1,
-      subst⁻¹ (λ (x : ℕ). Walked (c .before .before .before .args .set) (l .rest - x) (t + 1)) (one-shl 64 t (n .within)) (n .onward),
+      n .onward,
       omega (arith, n .within),
       tried-as (omega (arith, n .from))
           (ap (λ (x : List ℕ). x ++ (t ∷ [])) (sym (among-skip (l .inv .0) t f (n .from) (n .none))) ∙ among-more t f true (n .is))
-          (tried-then (l .inv .3) (c .attempt .ensures)),
+          (tried-then (l .inv .3) (c .before .before .attempt .ensures)),
     )
+
+same-length : tie.Need-same-length Inv-loop μ-loop
+same-length c = c .before .loop .inv .3 .size
 
 returns : tie.Need-returns Inv-loop μ-loop
 returns c =
     let l = c .before .loop in
-    let set = c .before .before .args .set in
+    let set = c .before .before .before .args .set in
     let all = subst⁻¹ (λ (x : ℕ). Walked set x (l .inv .0)) (sym (c .loop-test .left)) (l .inv .1) in
     tried-as (l .inv .2) (sym (among-skip (l .inv .0) 64 (has set) (l .inv .2) (λ i u v. walked-all all i u))) (l .inv .3)
 
@@ -75,8 +74,8 @@ attempts-at-spec =
     loop-holds
     cast-j
     attempt-requires
-    shl-rest
     sub-rest
     loop-less
     loop-again
+    same-length
     returns)

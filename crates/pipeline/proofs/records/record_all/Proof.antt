@@ -1,10 +1,9 @@
-use Prim.Native.Nat.{ℕ, _+_, _-_, _*_, _%_, _^_, _≤_, _<_}
-use mathlib.Core.Path.{_≡_, sym, _∙_, subst}
+use Prim.Native.Nat.{ℕ, _+_, _-_, _≤_}
+use mathlib.Core.Path.{sym, _∙_, subst}
 use native.Mathlib.Omega.{arith}
 use lib.Count.{trailingZeros}
 use Rattle.network.specs.Graph.{has}
-use Rattle.network.proofs.Sets.{one-shl}
-use Rattle.network.proofs.Lowest.{Walked, Next, walked-none, walked-next, walked-all}
+use Rattle.network.proofs.Lowest.{Walked, Next, walked-none, walked-next, walked-all, nonzero}
 use Rattle.phy.specs.Slot.{among}
 use Rattle.pipeline.specs.View.{Files}
 use Rattle.pipeline.proofs.Filing.{files-none, files-skip, files-more, files-all-known}
@@ -14,7 +13,7 @@ use Rattle.pipeline.proofs.records.record_all.Tie as tie
 -- the terms below m are recorded
 abbrev Inv-loop : tie.InvT-loop
 Inv-loop table₀ end newly r₀ rest₀ table r rest =
-    (rest < 2 ^ 64) × (m : ℕ) × (m ≤ 64) × Walked newly rest m × Files end (among m (has newly)) r₀ table₀ r table
+    (m : ℕ) × (m ≤ 64) × Walked newly rest m × Files end (among m (has newly)) r₀ table₀ r table
 
 abbrev μ-loop : tie.MeasureT-loop
 μ-loop table₀ end newly r₀ rest₀ table r rest = rest
@@ -25,37 +24,27 @@ term c = trailingZeros 64 (c .before .loop .rest)
 
 next : (c : tie.In-loop Inv-loop μ-loop) →
     let l = c .before .loop in
-    Next 64 (c .before .before .before .before .before .args .newly) (l .rest) (l .inv .1) (term c)
-next c = walked-next 64 (c .before .loop .inv .0) (c .loop-test .taken) (c .before .loop .inv .3)
-
-shifted : (c : tie.In-loop Inv-loop μ-loop) → 1 * 2 ^ term c % 2 ^ 64 ≡ 2 ^ term c
-shifted c = one-shl 64 (term c) (next c .within)
+    Next 64 (c .before .before .before .before .before .args .newly) (l .rest) (l .inv .0) (term c)
+next c = walked-next 64 (omega (arith, c .before .loop .inv .2 .part)) (c .loop-test .taken) (c .before .loop .inv .2)
 
 returns : tie.Need-returns Inv-loop μ-loop
 returns c = files-all-known (c .before .before .before .args .end) (c .before .before .before .args .newly) (c .before .before .before .pre) (c .if1 .taken)
 
 loop-holds : tie.Need-loop-holds Inv-loop μ-loop
 unfolding among
-loop-holds c = (omega arith, 0, omega arith, walked-none _, files-none (c .before .before .before .pre))
+loop-holds c = (0, omega arith, walked-none _, files-none (c .before .before .before .pre))
 
 cast-t : tie.Need-cast-t Inv-loop μ-loop
 cast-t c = omega (arith, next c .within)
 
 record-one-requires : tie.Need-record-one-requires Inv-loop μ-loop
-record-one-requires c κs = (c .before .before .loop .inv .4 .filed, next (c .before) .within)
-
-shl-rest : tie.Need-shl-rest Inv-loop μ-loop
-shl-rest c = next (c .before .before .before .before) .within
+record-one-requires c κs = (c .before .before .loop .inv .3 .filed, next (c .before) .within)
 
 sub-rest : tie.Need-sub-rest Inv-loop μ-loop
-sub-rest c =
-    let i = c .before .before .before .before in
-    omega (arith, shifted i, next i .fits)
+sub-rest c = nonzero (c .before .before .before .before .loop-test .taken)
 
 loop-less : tie.Need-loop-less Inv-loop μ-loop
-loop-less c =
-    let i = c .before .before .before .before in
-    omega (arith, shifted i, next i .fewer)
+loop-less c = next (c .before .before .before .before) .fewer
 
 loop-again : tie.Need-loop-again Inv-loop μ-loop
 loop-again c =
@@ -63,22 +52,21 @@ loop-again c =
     let l = i .before .loop in
     let newly = i .before .before .before .before .before .args .newly in
     let n = next i in (
-      omega (arith, l .inv .0),
       term i + 1,
       omega (arith, n .within),
-      subst (λ (x : ℕ). Walked newly (l .rest - x) (term i + 1)) (sym (shifted i)) (n .onward),
-      files-more (has newly) (n .is) (files-skip (has newly) (n .from) (n .none) (l .inv .4)) (c .before .before .record-one .ensures),
+      n .onward,
+      files-more (has newly) (n .is) (files-skip (has newly) (n .from) (n .none) (l .inv .3)) (c .before .before .record-one .ensures),
     )
 
 same-length : tie.Need-same-length Inv-loop μ-loop
-same-length c = c .before .loop .inv .4 .filed .room ∙ sym (c .before .before .before .before .before .pre .room)
+same-length c = c .before .loop .inv .3 .filed .room ∙ sym (c .before .before .before .before .before .pre .room)
 
 returns-2 : tie.Need-returns-2 Inv-loop μ-loop
 returns-2 c =
     let l = c .before .loop in
     let newly = c .before .before .before .before .before .args .newly in
-    let done = subst (λ (r : ℕ). Walked newly r (l .inv .1)) (c .loop-test .left) (l .inv .3) in
-    files-skip (has newly) (l .inv .2) (λ k g _. walked-all done k g) (l .inv .4)
+    let done = subst (λ (r : ℕ). Walked newly r (l .inv .0)) (c .loop-test .left) (l .inv .2) in
+    files-skip (has newly) (l .inv .1) (λ k g _. walked-all done k g) (l .inv .3)
 
 pub record-all-spec : {M : Type 1} → statement M
 record-all-spec =
@@ -90,7 +78,6 @@ record-all-spec =
     loop-holds
     cast-t
     record-one-requires
-    shl-rest
     sub-rest
     loop-less
     loop-again

@@ -28,7 +28,7 @@ initiator-turn-requires c κs =
     let start = c .before .before .before .before in
     let a = start .args in
     let most = proposing (a .x .counter) (a .proposals) (start .pre .0 .2 .few) (start .pre .3) in
-    (start .pre .0 .2 .kept .each (a .initiator .0) (start .pre .1), (omega (arith, counted-is (ltb (a .x .counter) (a .proposals)) (a .x .counter), most), omega (arith, start .pre .1, start .pre .2)))
+    (start .pre .0 .2 .kept .each (a .initiator .0) (start .pre .1), (omega (arith, counted-is (ltb (a .x .counter) (a .proposals)) (a .x .counter), most), omega (arith, start .pre .1, start .pre .2), start .pre .4))
 
 start-requires : tie.Need-start-requires
 start-requires c κs =

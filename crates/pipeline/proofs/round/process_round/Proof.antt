@@ -1,13 +1,13 @@
 use Prim.Native.Nat.{ℕ, _+_, _-_, _*_, _%_, _^_, _≤_, _<_}
 use mathlib.Core.Path.{_≡_, refl, sym, ap, subst, subst⁻¹, _∙_}
-use native.Mathlib.Nat.{add-zero, mod-lt, lt-trans}
+use native.Mathlib.Nat.{add-zero, mod-le, mod-lt}
 use native.Mathlib.Omega.{arith}
 use lib.Count.{trailingZeros}
 use lib.Pow.{pow-pos}
 use denote.Ref.{now}
 use Rattle.network.specs.Graph.{has}
 use Rattle.network.proofs.Sets.{has-low, has-below, one-shl}
-use Rattle.network.proofs.Lowest.{Walked, Next, walked-none, walked-next, walked-all}
+use Rattle.network.proofs.Lowest.{Walked, Next, walked-none, walked-next, walked-all, nonzero}
 use Rattle.protocol.specs.View.{Carried}
 use Rattle.pipeline.specs.declared.shared.Shared.{Shared}
 use Rattle.pipeline.specs.Round.{Shared as Whole, turns, takeTurn, processRound}
@@ -19,8 +19,7 @@ use Rattle.pipeline.proofs.round.process_round.Tie as tie
 -- the nodes below m have had their turns
 abbrev Inv-loop : tie.InvT-loop
 Inv-loop states₀ table₀ n packet slot part y₀ rest₀ states table y rest =
-    (rest < 2 ^ 64)
-    × (m : ℕ)
+    (m : ℕ)
     × (m ≤ n)
     × Walked rest₀ rest m
     × (y .counter ≡ y₀ .counter)
@@ -57,6 +56,11 @@ took-is c =
     let b = c .before .before .before .before in
     ap (λ (x : ℕ). b .args .part % x) (one-shl 64 (b .args .n) (omega (arith, b .pre .1)))
 
+word : (c : tie.At-loop Inv-loop μ-loop) → took c < 2 ^ 64
+word c =
+    let b = c .before .before .before .before in
+    omega (arith, b .fits .part .fits, mod-le (b .args .part) (1 * 2 ^ b .args .n % 2 ^ 64))
+
 has-took : (c : tie.At-loop Inv-loop μ-loop) (j : ℕ) →
     let a = c .before .before .before .before .args in
     j < a .n → has (took c) j ≡ has (a .part) j
@@ -66,11 +70,8 @@ has-took c j h = ap (λ (x : ℕ). has x j) (took-is c) ∙ has-low _ _ j h
 abbrev node : tie.In-loop Inv-loop μ-loop → ℕ
 node c = trailingZeros 64 (c .before .loop .rest)
 
-next : (c : tie.In-loop Inv-loop μ-loop) → Next 64 (took (c .before)) (c .before .loop .rest) (c .before .loop .inv .1) (node c)
-next c = walked-next 64 (c .before .loop .inv .0) (c .loop-test .taken) (c .before .loop .inv .3)
-
-shifted : (c : tie.In-loop Inv-loop μ-loop) → 1 * 2 ^ node c % 2 ^ 64 ≡ 2 ^ node c
-shifted c = one-shl 64 (node c) (next c .within)
+next : (c : tie.In-loop Inv-loop μ-loop) → Next 64 (took (c .before)) (c .before .loop .rest) (c .before .loop .inv .0) (node c)
+next c = walked-next 64 (omega (arith, c .before .loop .inv .2 .part, word (c .before))) (c .loop-test .taken) (c .before .loop .inv .2)
 
 below : (c : tie.In-loop Inv-loop μ-loop) → node c < c .before .before .before .before .before .args .n
 below c =
@@ -84,7 +85,7 @@ module _ (c : tie.In-loop Inv-loop μ-loop) (k b : ℕ)
   so-far :
       let l = c .before .loop in
       Sharing (c .before .before .before .before .before .args .n) k (b + node c) (l .y) (l .states) (l .table)
-  so-far = sharing-more (omega (arith, next c .from)) (c .before .loop .inv .5 k b s)
+  so-far = sharing-more (omega (arith, next c .from)) (c .before .loop .inv .4 k b s)
 
   turned :
       let l = c .before .loop in
@@ -92,7 +93,7 @@ module _ (c : tie.In-loop Inv-loop μ-loop) (k b : ℕ)
       sharedOf (a .n) (l .y) (l .states) (l .table) ≡ turns (a .packet) (a .slot .0) (a .part) (node c) (start (c .before))
   turned =
       let a = c .before .before .before .before .before .args in
-      c .before .loop .inv .6 k b s
+      c .before .loop .inv .5 k b s
       ∙ sym (turns-skip (a .packet) (a .slot .0) (a .part) _ (node c) (start (c .before)) (next c .from)
       (λ j u v. sym (has-took (c .before) j (omega (arith, v, below c))) ∙ next c .none j u v))
 
@@ -111,7 +112,7 @@ loop-holds : tie.Need-loop-holds Inv-loop μ-loop
 unfolding turns
 loop-holds c =
     let a = c .before .before .before .args in
-    (lt-trans (mod-lt (a .part) (rem-rest c)) (mod-lt (1 * 2 ^ a .n) (pow-pos 64)), 0, omega arith, walked-none _, refl, (λ k m s. subst (λ (u : ℕ). Sharing (a .n) k u (c .cleared .result) (now (a .states)) (now (a .table))) (sym (add-zero m)) s), (λ k m s. refl))
+    (0, omega arith, walked-none _, refl, (λ k m s. subst (λ (u : ℕ). Sharing (a .n) k u (c .cleared .result) (now (a .states)) (now (a .table))) (sym (add-zero m)) s), (λ k m s. refl))
 
 cast-j : tie.Need-cast-j Inv-loop μ-loop
 cast-j c = omega (arith, next c .within)
@@ -123,21 +124,14 @@ take-turn-requires c κs =
     let a = b .args in
     let pre = b .pre .0 in (
       (a .n, pre .0, pre .1 + node i, so-far i (pre .0) (pre .1) (from (i .before) (pre .0) (pre .1) (pre .2)), below i, b .pre .1, omega (arith, pre .3, next i .within)),
-      subst⁻¹ (λ (m : ℕ). Carried m (a .packet)) (i .before .loop .inv .4 ∙ ap (λ (x : Shared). x .counter) (i .before .before .cleared .ensures)) (b .pre .2),
+      subst⁻¹ (λ (m : ℕ). Carried m (a .packet)) (i .before .loop .inv .3 ∙ ap (λ (x : Shared). x .counter) (i .before .before .cleared .ensures)) (b .pre .2),
     )
 
-shl-rest-2 : tie.Need-shl-rest-2 Inv-loop μ-loop
-shl-rest-2 c = next (c .before .before .before .before .before .before .before) .within
-
 sub-rest : tie.Need-sub-rest Inv-loop μ-loop
-sub-rest c =
-    let i = c .before .before .before .before .before .before .before in
-    omega (arith, shifted i, next i .fits)
+sub-rest c = nonzero (c .before .before .before .before .before .before .before .loop-test .taken)
 
 loop-less : tie.Need-loop-less Inv-loop μ-loop
-loop-less c =
-    let i = c .before .before .before .before .before .before .before in
-    omega (arith, shifted i, next i .fewer)
+loop-less c = next (c .before .before .before .before .before .before .before) .fewer
 
 loop-again : tie.Need-loop-again Inv-loop μ-loop
 loop-again c =
@@ -146,11 +140,10 @@ loop-again c =
     let l = i .before .loop in
     let a = i .before .before .before .before .before .args in
     let h = below i in (
-      omega (arith, l .inv .0),
       node i + 1,
       omega arith,
-      subst (λ (x : ℕ). Walked (took (i .before)) (l .rest - x) (node i + 1)) (sym (shifted i)) (next i .onward),
-      turn .ensures .counter ∙ l .inv .4,
+      next i .onward,
+      turn .ensures .counter ∙ l .inv .3,
       (λ k b s. sharing-more (omega arith) (turn .ensures .sharing (a .n) k (b + node i) h (so-far i k b s))),
       (λ k b s.
           turn .ensures .shared (a .n) k (b + node i) h (so-far i k b s)
@@ -161,12 +154,12 @@ loop-again c =
 same-length : tie.Need-same-length Inv-loop μ-loop
 same-length c =
     let pre = c .before .before .before .before .before .pre .0 in
-    c .before .loop .inv .5 (pre .0) (pre .1) (from (c .before) (pre .0) (pre .1) (pre .2)) .kept .room ∙ sym (pre .2 .kept .room)
+    c .before .loop .inv .4 (pre .0) (pre .1) (from (c .before) (pre .0) (pre .1) (pre .2)) .kept .room ∙ sym (pre .2 .kept .room)
 
 same-length-2 : tie.Need-same-length-2 Inv-loop μ-loop
 same-length-2 c =
     let pre = c .before .before .before .before .before .pre .0 in
-    c .before .loop .inv .5 (pre .0) (pre .1) (from (c .before) (pre .0) (pre .1) (pre .2)) .started .room ∙ sym (pre .2 .started .room)
+    c .before .loop .inv .4 (pre .0) (pre .1) (from (c .before) (pre .0) (pre .1) (pre .2)) .started .room ∙ sym (pre .2 .started .room)
 
 returns : tie.Need-returns Inv-loop μ-loop
 unfolding processRound sharedOf
@@ -175,13 +168,13 @@ returns c =
     let b = c .before .before .before .before .before in
     let a = b .args in
     let same = c .before .before .cleared .ensures in
-    let done = subst (λ (r : ℕ). Walked (took (c .before)) r (l .inv .1)) (c .loop-test .left) (l .inv .3) in
+    let done = subst (λ (r : ℕ). Walked (took (c .before)) r (l .inv .0)) (c .loop-test .left) (l .inv .2) in
     record {
-      counter = l .inv .4 ∙ ap (λ (y : Shared). y .counter) same;
-      sharing = λ k m s. sharing-more (omega (arith, l .inv .2)) (l .inv .5 k m (from (c .before) k m s));
+      counter = l .inv .3 ∙ ap (λ (y : Shared). y .counter) same;
+      sharing = λ k m s. sharing-more (omega (arith, l .inv .1)) (l .inv .4 k m (from (c .before) k m s));
       shared =
-          l .inv .6 _ _ (from (c .before) _ _ (b .pre .0 .2))
-          ∙ sym (turns-skip (a .packet) (a .slot .0) (a .part) _ (a .n) (start (c .before)) (l .inv .2) (λ j u v. sym (has-took (c .before) j v) ∙ walked-all done j u))
+          l .inv .5 _ _ (from (c .before) _ _ (b .pre .0 .2))
+          ∙ sym (turns-skip (a .packet) (a .slot .0) (a .part) _ (a .n) (start (c .before)) (l .inv .1) (λ j u v. sym (has-took (c .before) j v) ∙ walked-all done j u))
           ∙ ap (λ (y : Shared). turns (a .packet) (a .slot .0) (a .part) (a .n) (sharedOf (a .n) y (now (a .states)) (now (a .table)))) same;
     }
 
@@ -197,7 +190,6 @@ process-round-spec =
     loop-holds
     cast-j
     take-turn-requires
-    shl-rest-2
     sub-rest
     loop-less
     loop-again

@@ -8,11 +8,12 @@ use Rattle.network.specs.Graph.{has}
 use Rattle.phy.specs.Slot.{among}
 use Rattle.phy.specs.declared.packet.Piggyback.{Piggyback}
 use Rattle.protocol.specs.Turns.{Taken, participantTurn}
-use Rattle.protocol.specs.View.{view, backBelow}
+use Rattle.protocol.specs.View.{view}
 use Rattle.protocol.proofs.Kept.{kept-mono, last-mono}
 use Rattle.protocol.proofs.Chains.{carried-mono}
+use Rattle.pipeline.specs.declared.shared.Shared.{Shared}
 use Rattle.pipeline.specs.Round.{stateOf, takeTurn, latest, onePiggyback}
-use Rattle.pipeline.specs.View.{sharedOf, statesOf}
+use Rattle.pipeline.specs.View.{sharedOf, statesOf, TakesTurn}
 use Rattle.pipeline.proofs.Filing.{files-records}
 use Rattle.pipeline.proofs.Sharing.{state-at, states-set, start-at, starts-same, started-same, participant-newly, kept-set, latest-below, one-at-most}
 use Rattle.pipeline.proofs.round.take_turn.Statement.{statement}
@@ -31,16 +32,10 @@ participant-turn-requires c κs =
 record-all-requires : tie.Need-record-all-requires
 record-all-requires c κs = search needs
 
-latest-requires : tie.Need-latest-requires
-latest-requires c κs = search needs
-
-one-piggyback-requires : tie.Need-one-piggyback-requires
-one-piggyback-requires c κs = search needs
-
-add-t19 : tie.Need-add-t19
-add-t19 c =
-    let start = c .before .before .before .before .before .before .before .before .before .before .before .before .before .before in
-    omega (arith, start .pre .0 .3 .piggybacks, start .pre .0 .6, c .before .one-piggyback .ensures, one-at-most (c .before .before .before .before .before .before .before .before .before .participant-turn .result .recovery))
+recovered-requires : tie.Need-recovered-requires
+recovered-requires c κs =
+    let start = c .before .before .before .before .before .before .before .before .before .before .before in
+    omega (arith, start .pre .0 .3 .piggybacks, start .pre .0 .6)
 
 same-length : tie.Need-same-length
 same-length c = search needs
@@ -51,25 +46,24 @@ same-length-2 c = search needs
 returns : tie.Need-returns
 unfolding sharedOf takeTurn
 returns c =
-    let start = c .before .before .before .before .before .before .before .before .before .before .before .before .before .before in
+    let start = c .before .before .before .before .before .before .before .before .before .before .before .before in
     let a = start .args in
     let x = a .x in
     let j = a .node .0 in
     let held = now (a .states) in
-    let turn = c .before .before .before .before .before .before .before .before .before .participant-turn in
-    let filed = c .before .before .before .before .before .record-all in
-    let latest-is = c .before .before .latest .ensures in
-    let one-is = c .before .one-piggyback .ensures in
-    record {
+    let turn = c .before .before .before .before .before .before .before .participant-turn in
+    let filed = c .before .before .before .record-all in
+    subst⁻¹ (λ (r : Shared). TakesTurn (a .packet) (a .slot .0) j x held (now (a .table)) r (turn .last .0) (filed .last .0)) (c .recovered .ensures)
+    (record {
       counter = refl;
       sharing = λ n k m h s. record {
         few = s .few;
         kept = kept-set j (s .kept) (omega arith) (s .few) (turn .ensures .wrote) (turn .ensures .kept (x .counter) (start .pre .1) (s .kept .each j h));
         started = started-same (filed .ensures) (s .started);
         filed = filed .ensures .filed;
-        back = subst⁻¹ (backBelow (x .counter)) latest-is (latest-below (x .counter) (turn .result .recovery) (x .piggyback) (turn .ensures .back (x .counter) (start .pre .1) (s .kept .each j h)) (s .back));
+        back = latest-below (x .counter) (turn .result .recovery) (x .piggyback) (turn .ensures .back (x .counter) (start .pre .1) (s .kept .each j h)) (s .back);
         nacks = s .nacks;
-        piggybacks = omega (arith, s .piggybacks, one-is, one-at-most (turn .result .recovery));
+        piggybacks = omega (arith, s .piggybacks, one-at-most (turn .result .recovery));
       };
       shared = λ n k m h s.
           let spec : Taken = participantTurn j (a .packet) (stateOf (statesOf n held) j) in
@@ -81,8 +75,8 @@ returns c =
           ∙ sym (ap (λ (t : Taken). t .newly) same) in
           let records = files-records (take (x .counter) (now (a .table))) (filed .ensures) newly refl (start-at (s .started) (s .few)) in
           let recovered = turn .ensures .recovered ∙ sym (ap (λ (t : Taken). t .recovered) same) in
-          let back = latest-is ∙ ap (λ (p : Piggyback). latest p (x .piggyback)) recovered in
-          let piggybacks = ap (λ (w : ℕ). x .piggybacks + w) (one-is ∙ ap onePiggyback recovered) in
+          let back = ap (λ (p : Piggyback). latest p (x .piggyback)) recovered in
+          let piggybacks = ap (λ (w : ℕ). x .piggybacks + w) (ap onePiggyback recovered) in
           let starts = starts-same (filed .ensures) (x .counter) (x .counter) refl (s .few) in
           λ i. record {
             states = states i;
@@ -93,7 +87,7 @@ returns c =
             nacks = x .nacks;
             piggybacks = piggybacks i;
           };
-    }
+    })
 
 pub take-turn-spec : {M : Type 1} → statement M
 take-turn-spec =
@@ -102,9 +96,7 @@ take-turn-spec =
     mul-at
     participant-turn-requires
     record-all-requires
-    latest-requires
-    one-piggyback-requires
-    add-t19
+    recovered-requires
     same-length
     same-length-2
     returns)

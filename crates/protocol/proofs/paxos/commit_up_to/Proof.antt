@@ -2,7 +2,7 @@
 -- left of the set from m on.
 -- Assumes nothing.
 use borrow.Author.Needs.{needs}
-use Prim.Native.Nat.{ℕ, suc, _+_, _-_, _*_, _%_, _^_, _≤_, _<_}
+use Prim.Native.Nat.{ℕ, suc, _+_, _-_, _^_, _≤_, _<_}
 use mathlib.Core.Bool.{true}
 use mathlib.Core.Path.{_≡_, refl, sym, ap, _∙_, subst}
 use native.Mathlib.Omega.{arith}
@@ -10,8 +10,8 @@ use lib.Bits.{bitAnd, and-le-l}
 use lib.Count.{trailingZeros}
 use lib.Dec.{leb}
 use Rattle.network.specs.Graph.{has}
-use Rattle.network.proofs.Sets.{has-below, setOf-lt, one-shl}
-use Rattle.network.proofs.Lowest.{Walked, Next as Lower, walked-none, walked-next, walked-all}
+use Rattle.network.proofs.Sets.{has-below, setOf-lt}
+use Rattle.network.proofs.Lowest.{Walked, Next as Lower, walked-none, walked-next, walked-all, nonzero}
 use Rattle.protocol.specs.Paxos.{commitBelow}
 use Rattle.protocol.specs.View.{view, loggedSet, Next}
 use Rattle.protocol.proofs.Steps.{next-same, newlySet, newly-word, newly-is, turn-kept, turn-free, turn-new, turn-past}
@@ -20,7 +20,7 @@ use Rattle.protocol.proofs.paxos.commit_up_to.Tie as tie
 
 abbrev Inv-loop : tie.InvT-loop
 Inv-loop states₀ at reach newly rest₀ states rest =
-    (rest < 2 ^ 64) × (m : ℕ) × Walked newly rest m ×
+    (m : ℕ) × Walked newly rest m ×
     ((u : ℕ) → u < 64 → newly ≡ newlySet u (loggedSet states₀ at) →
     (m ≤ suc u) × Next (λ c. u < c) at states₀ states (commitBelow m (view states₀ at)))
 
@@ -41,12 +41,18 @@ newly-is-set c =
     let a = c .before .before .before .before .args in
     ap (λ (x : ℕ). x - bitAnd x (loggedSet (a .states .now) (a .at))) (c .before .before .up-to .ensures)
 
+word : (c : tie.At-loop Inv-loop μ-loop) → newly c < 2 ^ 64
+word c =
+    let reach = setOf-lt 64 (λ (t : ℕ). leb t (c .before .before .before .before .args .last .0)) in
+    omega (arith, reach, c .before .before .up-to .ensures)
+
 -- the lowest term that is left
 abbrev term : tie.In-loop Inv-loop μ-loop → ℕ
 term c = trailingZeros 64 (c .before .loop .rest)
 
-next : (c : tie.In-loop Inv-loop μ-loop) → Lower 64 (newly (c .before)) (c .before .loop .rest) (c .before .loop .inv .1) (term c)
-next c = walked-next 64 (c .before .loop .inv .0) (c .loop-test .taken) (c .before .loop .inv .2)
+next : (c : tie.In-loop Inv-loop μ-loop) → Lower 64 (newly (c .before)) (c .before .loop .rest) (c .before .loop .inv .0) (term c)
+next c =
+    walked-next 64 (omega (arith, c .before .loop .inv .1 .part, word (c .before))) (c .loop-test .taken) (c .before .loop .inv .1)
 
 module _
     (c : tie.In-loop Inv-loop μ-loop) (u : ℕ) (h : u < 64)
@@ -67,11 +73,8 @@ module _
   so-far =
       let b = c .before .before .before .before .before in
       let l = c .before .loop in
-      turn-past (b .args .states .now) (l .states) (b .args .at) u (l .inv .1) (b .pre .0) h (l .inv .3 u h e .1) (term c) (next c .from) (omega (arith, at-most))
+      turn-past (b .args .states .now) (l .states) (b .args .at) u (l .inv .0) (b .pre .0) h (l .inv .2 u h e .1) (term c) (next c .from) (omega (arith, at-most))
       (λ j g k. ap (λ (x : ℕ). has x j) (sym e) ∙ next c .none j g k)
-
-shifted : (c : tie.In-loop Inv-loop μ-loop) → 1 * 2 ^ term c % 2 ^ 64 ≡ 2 ^ term c
-shifted c = one-shl 64 (term c) (next c .within)
 
 up-to-requires : tie.Need-up-to-requires Inv-loop μ-loop
 up-to-requires c κs = search needs
@@ -90,9 +93,7 @@ sub-newly c = and-le-l _ _
 
 loop-holds : tie.Need-loop-holds Inv-loop μ-loop
 unfolding commitBelow
-loop-holds c =
-    let word = setOf-lt 64 (λ (t : ℕ). leb t (c .before .before .before .args .last .0)) in
-    (omega (arith, c .before .up-to .ensures), 0, walked-none _, λ u h e. (omega arith, next-same refl))
+loop-holds c = (0, walked-none _, λ u h e. (omega arith, next-same refl))
 
 cast-t : tie.Need-cast-t Inv-loop μ-loop
 cast-t c = omega (arith, next c .within)
@@ -109,27 +110,19 @@ commit-term-requires c κs =
       (next i .within, turn-free (a .states .now) (i .before .loop .states) (a .at) u (term i) (b .pre .0) (b .pre .1) n (at-most i u (b .pre .1) e) (is-new i u (b .pre .1) e)),
     )
 
-shl-rest : tie.Need-shl-rest Inv-loop μ-loop
-shl-rest c = next (c .before .before .before .before) .within
-
 sub-rest : tie.Need-sub-rest Inv-loop μ-loop
-sub-rest c =
-    let i = c .before .before .before .before in
-    omega (arith, shifted i, next i .fits)
+sub-rest c = nonzero (c .before .before .before .before .loop-test .taken)
 
 loop-less : tie.Need-loop-less Inv-loop μ-loop
-loop-less c =
-    let i = c .before .before .before .before in
-    omega (arith, shifted i, next i .fewer)
+loop-less c = next (c .before .before .before .before) .fewer
 
 loop-again : tie.Need-loop-again Inv-loop μ-loop
 loop-again c =
     let i = c .before .before .before .before in
     let b = i .before .before .before .before .before in
     let a = b .args in (
-      omega (arith, i .before .loop .inv .0),
       term i + 1,
-      subst (λ (x : ℕ). Walked (newly (i .before)) (i .before .loop .rest - x) (term i + 1)) (sym (shifted i)) (next i .onward),
+      next i .onward,
       λ u h e.
           let most = at-most i u h e in
           (omega arith, turn-new (a .states .now) (i .before .loop .states) (a .at) u (term i) (b .pre .0) h (so-far i u h e) _ most (c .before .before .commit-term .ensures)),
@@ -139,7 +132,7 @@ same-length : tie.Need-same-length Inv-loop μ-loop
 same-length c =
     let l = c .before in
     let b = l .before .before .before .before in
-    l .loop .inv .3 (b .args .last .0) (b .pre .1) (newly-is-set l) .1 .wrote .size
+    l .loop .inv .2 (b .args .last .0) (b .pre .1) (newly-is-set l) .1 .wrote .size
 
 returns : tie.Need-returns Inv-loop μ-loop
 returns c =
@@ -148,11 +141,11 @@ returns c =
     let a = b .args in
     let u = a .last .0 in
     let e = newly-is-set l in
-    let n = l .loop .inv .3 u (b .pre .1) e in
-    let done = subst (λ (r : ℕ). Walked (newly l) r (l .loop .inv .1)) (c .loop-test .left) (l .loop .inv .2) in
+    let n = l .loop .inv .2 u (b .pre .1) e in
+    let done = subst (λ (r : ℕ). Walked (newly l) r (l .loop .inv .0)) (c .loop-test .left) (l .loop .inv .1) in
     record {
       next =
-          turn-past (a .states .now) (l .loop .states) (a .at) u (l .loop .inv .1) (b .pre .0) (b .pre .1) (n .1) (suc u) (n .0) (omega arith)
+          turn-past (a .states .now) (l .loop .states) (a .at) u (l .loop .inv .0) (b .pre .0) (b .pre .1) (n .1) (suc u) (n .0) (omega arith)
           (λ j g k. ap (λ (x : ℕ). has x j) (sym e) ∙ walked-all done j g);
       newly = e ∙ newly-is u (b .pre .0) (b .pre .1);
     }
@@ -171,7 +164,6 @@ commit-up-to-spec =
     loop-holds
     cast-t
     commit-term-requires
-    shl-rest
     sub-rest
     loop-less
     loop-again

@@ -1,84 +1,81 @@
--- `protocol::paxos::greatest_quorum` meets its contract. The invariant: a term that is not left has no quorum.
+-- `protocol::paxos::greatest_quorum` meets its contract. The invariant: no term from t on has a quorum.
 -- Assumes nothing.
 use borrow.Author.Needs.{needs}
-use Prim.Native.Nat.{ℕ, _-_, _*_, _%_, _^_, _≤_, _<_}
-use mathlib.Core.Bool.{Bool, true, false, cond}
+use Prim.Native.Nat.{ℕ, _-_, _≤_}
+use mathlib.Core.Bool.{Bool, true, false, cond, _&&_}
 use mathlib.Core.List.{List}
+use mathlib.Core.Option.{none, some}
 use mathlib.Core.Path.{_≡_, refl, sym, ap, _∙_, subst}
+use mathlib.Core.Logic.{⊎-elim}
+use native.Mathlib.Nat.{eq-or-lt-of-le}
 use native.Mathlib.Omega.{arith}
-use lib.Count.{leadingZeros}
-use lib.Pow.{pow-pos}
+use borrow.Author.Tests.{leb-true, leb-false, lt-leb}
+use lib.Count.{trailingZeros, leadingZeros}
+use lib.Dec.{leb}
 use Rattle.network.specs.Graph.{has}
-use Rattle.network.proofs.Sets.{never, has-out, one-shl}
-use Rattle.network.proofs.Lowest.{Highest, highest, has-le, has-less}
+use Rattle.network.proofs.Sets.{has-out, one-shl}
+use Rattle.network.proofs.Lowest.{Lowest, Highest, lowest, highest}
 use Rattle.phy.proofs.Masks.{has-zero}
-use Rattle.protocol.specs.Paxos.{quorum}
-use Rattle.protocol.specs.View.{view, pendingSet, pendingOf}
-use Rattle.protocol.proofs.Places.{same-or}
+use Rattle.protocol.specs.Paxos.{size, majority, quorum}
+use Rattle.protocol.specs.View.{view, pendingSet, pendingOf, votesAt, dataAt}
 use Rattle.protocol.proofs.Commit.{greatest-none, greatest-is}
 use Rattle.protocol.proofs.Frame.{pending-word}
-use Rattle.protocol.proofs.Kept.{pending-at, pending-none}
+use Rattle.protocol.proofs.Kept.{pending-none}
+use Rattle.protocol.proofs.Places.{either}
+use Rattle.protocol.proofs.Sets.{size-vote}
 use Rattle.protocol.proofs.paxos.greatest_quorum.Statement.{statement}
 use Rattle.protocol.proofs.paxos.greatest_quorum.Tie as tie
 
--- the terms of rest are pending, and no other term has a quorum
-abbrev Left : List ℕ → ℕ → ℕ → ℕ → Type 0
-Left b at n rest =
-    ((j : ℕ) → has rest j ≡ true → has (pendingSet b at) j ≡ true) ×
-    ((j : ℕ) → has rest j ≡ false → quorum n (pendingOf b at j) ≡ false)
-
--- one term less is left
-left-less : (b : List ℕ) (at n rest t : ℕ) → has rest t ≡ true → quorum n (pendingOf b at t) ≡ false → Left b at n rest → Left b at n (rest - 2 ^ t)
-left-less b at n rest t e q l = (
-  λ j h.
-      same-or (λ (x : Bool). cond x false (has rest j) ≡ true → has (pendingSet b at) j ≡ true) j t (λ p g. never g refl) (λ p g. l .0 j g)
-      (sym (has-less rest t j e) ∙ h),
-  λ j h.
-      same-or (λ (x : Bool). cond x false (has rest j) ≡ false → quorum n (pendingOf b at j) ≡ false) j t (λ p g. rw p q) (λ p g. l .1 j g)
-      (sym (has-less rest t j e) ∙ h),
-)
+-- a quorum is a majority of the votes of a pending term
+judged : (b : List ℕ) (at n t : ℕ) → quorum n (pendingOf b at t) ≡ (has (pendingSet b at) t && leb (majority n) (size (votesAt b at t)))
+unfolding pendingOf
+judged b at n t = go (has (pendingSet b at) t)
+  where
+    go : (x : Bool) → quorum n (cond x (some (record { votes = votesAt b at t; payload = dataAt b at t })) none) ≡ (x && leb (majority n) (size (votesAt b at t)))
+    go true = refl
+    go false = refl
 
 abbrev Inv-loop : tie.InvT-loop
-Inv-loop states at n rest₀ rest = (rest < 2 ^ 64) × Left states at n rest
+Inv-loop states at n pending own first t₀ t = (t ≤ 64) × ((u : ℕ) → t ≤ u → quorum n (pendingOf states at u) ≡ false)
 
 abbrev μ-loop : tie.MeasureT-loop
-μ-loop states at n rest₀ rest = rest
+μ-loop states at n pending own first t₀ t = t
 
--- the highest term that is left
-abbrev term : tie.In-loop Inv-loop μ-loop → ℕ
-term c = 63 - leadingZeros 64 (c .before .loop .rest)
+module _ (c : tie.Else1 Inv-loop μ-loop) where
+  abbrev pending : ℕ
+  pending = pendingSet (c .before .before .before .args .states .now) (c .before .before .before .args .at)
 
-top : (c : tie.In-loop Inv-loop μ-loop) → Highest 64 (c .before .loop .rest) (leadingZeros 64 (c .before .loop .rest))
-top c = highest 64 (c .before .loop .rest) (c .before .loop .inv .0) (c .loop-test .taken)
+  low : Lowest 64 pending (trailingZeros 64 pending)
+  low = lowest 64 pending (pending-word (c .before .before .before .pre .0)) (c .if1 .left)
 
-shifted : (c : tie.In-loop Inv-loop μ-loop) → 1 * 2 ^ term c % 2 ^ 64 ≡ 2 ^ term c
-shifted c = one-shl 64 (term c) (omega arith)
+  top : Highest 64 pending (leadingZeros 64 pending)
+  top = highest 64 pending (pending-word (c .before .before .before .pre .0)) (c .if1 .left)
 
-fits : (c : tie.In-loop Inv-loop μ-loop) → 2 ^ term c ≤ c .before .loop .rest
-fits c = has-le (term c) (c .before .loop .rest) (top c .is)
+  -- a term that is not pending has no quorum
+  no-quorum : (u : ℕ) → has pending u ≡ false → let a = c .before .before .before .args in quorum (a .n) (pendingOf (a .states .now) (a .at) u) ≡ false
+  no-quorum u e = let a = c .before .before .before .args in ap (quorum (a .n)) (pending-none (a .states .now) (a .at) u e)
 
--- whether it has a quorum
-judged : (c : tie.After-is-majority Inv-loop μ-loop) →
-    let a = c .before .before .before .before .before .before .args in
-    quorum (a .n) (pendingOf (a .states .now) (a .at) (term (c .before .before))) ≡ c .is-majority .result
-judged c =
-    let i = c .before .before in
-    let a = i .before .before .before .before .args in
-    ap (quorum (a .n)) (pending-at (a .states .now) (a .at) (term i) (i .before .loop .inv .1 .0 (term i) (top i .is))) ∙ sym (c .is-majority .ensures)
+add-pending : tie.Need-add-pending Inv-loop μ-loop
+add-pending c = search needs
 
-add-rest : tie.Need-add-rest Inv-loop μ-loop
-add-rest c = search needs
+mul-pending : tie.Need-mul-pending Inv-loop μ-loop
+mul-pending c = search needs
 
-mul-rest : tie.Need-mul-rest Inv-loop μ-loop
-mul-rest c = search needs
+shared-slice-read-pending : tie.Need-shared-slice-read-pending Inv-loop μ-loop
+shared-slice-read-pending c = search needs
 
-shared-slice-read-rest : tie.Need-shared-slice-read-rest Inv-loop μ-loop
-shared-slice-read-rest c = search needs
+returns : tie.Need-returns Inv-loop μ-loop
+returns c =
+    let a = c .before .before .before .args in
+    sym
+    (greatest-none 64 (a .n) (view (a .states .now) (a .at))
+    (λ t h. ap (quorum (a .n)) (pending-none (a .states .now) (a .at) t (ap (λ (x : ℕ). has x t) (c .if1 .taken) ∙ has-zero t))))
 
-loop-holds : tie.Need-loop-holds Inv-loop μ-loop
-loop-holds c =
-    let a = c .before .before .args in
-    (pending-word (c .before .before .pre), (λ j e. e, λ j e. ap (quorum (a .n)) (pending-none (a .states .now) (a .at) j e)))
+shl-own : tie.Need-shl-own Inv-loop μ-loop
+shl-own c = search needs
+
+cast-first : tie.Need-cast-first Inv-loop μ-loop
+cast-first c = omega (arith, low c .within)
 
 cast-t : tie.Need-cast-t Inv-loop μ-loop
 cast-t c = omega (arith, top c .within)
@@ -86,56 +83,60 @@ cast-t c = omega (arith, top c .within)
 sub-t : tie.Need-sub-t Inv-loop μ-loop
 sub-t c = omega (arith, top c .within)
 
-add-is-majority : tie.Need-add-is-majority Inv-loop μ-loop
-add-is-majority c = omega arith
+loop-holds : tie.Need-loop-holds Inv-loop μ-loop
+loop-holds c = (omega arith, λ u h. no-quorum c u (has-out (top c .above) u h))
 
-mul-is-majority : tie.Need-mul-is-majority Inv-loop μ-loop
-mul-is-majority c = omega arith
+sub-t-2 : tie.Need-sub-t-2 Inv-loop μ-loop
+sub-t-2 c = omega arith
 
-shared-slice-read-is-majority : tie.Need-shared-slice-read-is-majority Inv-loop μ-loop
-shared-slice-read-is-majority c = omega arith
+add-is-quorum : tie.Need-add-is-quorum Inv-loop μ-loop
+add-is-quorum c = omega arith
 
-is-majority-requires : tie.Need-is-majority-requires Inv-loop μ-loop
-is-majority-requires c κs = search needs
+mul-is-quorum : tie.Need-mul-is-quorum Inv-loop μ-loop
+mul-is-quorum c = omega arith
 
-returns : tie.Need-returns Inv-loop μ-loop
-returns c =
-    let i = c .before .before .before in
-    let a = i .before .before .before .before .args in
-    sym
-    (greatest-is 64 (a .n) (term i) (view (a .states .now) (a .at)) (omega arith) (judged (c .before) ∙ c .if1 .taken)
-    (λ u g h. i .before .loop .inv .1 .1 u (has-out (top i .above) u (omega (arith, top i .within)))))
+shared-slice-read-is-quorum : tie.Need-shared-slice-read-is-quorum Inv-loop μ-loop
+shared-slice-read-is-quorum c = omega arith
 
-shl-rest : tie.Need-shl-rest Inv-loop μ-loop
-shl-rest c = omega arith
-
-sub-rest : tie.Need-sub-rest Inv-loop μ-loop
-sub-rest c =
-    let i = c .before .before .before in
-    omega (arith, shifted i, fits i)
-
-loop-less : tie.Need-loop-less Inv-loop μ-loop
-loop-less c =
-    let i = c .before .before .before in
-    omega (arith, shifted i, fits i, pow-pos (term i))
-
-loop-again : tie.Need-loop-again Inv-loop μ-loop
-loop-again c =
-    let i = c .before .before .before in
-    let l = i .before .loop in
-    let a = i .before .before .before .before .args in (
-      omega (arith, l .inv .0),
-      subst (λ (x : ℕ). Left (a .states .now) (a .at) (a .n) (l .rest - x)) (sym (shifted i))
-          (left-less (a .states .now) (a .at) (a .n) (l .rest) (term i) (top i .is) (judged (c .before) ∙ c .if1 .left) (l .inv .1)),
-    )
+is-quorum-requires : tie.Need-is-quorum-requires Inv-loop μ-loop
+is-quorum-requires c κs =
+    let s = c .before .before .before .before .before .before in
+    let node = s .args .node .0 in
+    let one = ap size (one-shl 64 node (s .pre .1)) ∙ size-vote node (s .pre .1) in
+    (omega arith, lt-leb (majority (s .args .n)) _ (omega (arith, one, s .pre .2)))
 
 returns-2 : tie.Need-returns-2 Inv-loop μ-loop
 returns-2 c =
-    let l = c .before in
-    let a = l .before .before .before .args in
+    let l = c .before .before .before .before .loop in
+    let a = c .before .before .before .before .before .before .before .before .args in
+    sym
+    (greatest-is 64 (a .n) (l .t - 1) (view (a .states .now) (a .at)) (omega arith)
+    (judged (a .states .now) (a .at) (a .n) (l .t - 1) ∙ sym (c .before .is-quorum .ensures) ∙ c .if2 .taken)
+    (λ u g h. l .inv .1 u (omega arith)))
+
+loop-less : tie.Need-loop-less Inv-loop μ-loop
+loop-less c = omega arith
+
+loop-again : tie.Need-loop-again Inv-loop μ-loop
+loop-again c =
+    let l = c .before .before .before .before .loop in
+    let a = c .before .before .before .before .before .before .before .before .args in (
+      omega arith,
+      λ u h.
+          ⊎-elim
+          (λ e. subst (λ (v : ℕ). quorum (a .n) (pendingOf (a .states .now) (a .at) v) ≡ false) e
+          (judged (a .states .now) (a .at) (a .n) (l .t - 1) ∙ sym (c .before .is-quorum .ensures) ∙ c .if2 .left))
+          (λ g. l .inv .1 u (omega (arith, g))) (eq-or-lt-of-le h),
+    )
+
+returns-3 : tie.Need-returns-3 Inv-loop μ-loop
+returns-3 c =
+    let l = c .before .loop in
+    let e = c .before .before in
+    let a = e .before .before .before .args in
     sym
     (greatest-none 64 (a .n) (view (a .states .now) (a .at))
-    (λ t h. l .loop .inv .1 .1 t (ap (λ (x : ℕ). has x t) (c .loop-test .left) ∙ has-zero t)))
+    (λ t h. ⊎-elim (λ g. l .inv .1 t (leb-true (l .t) t g)) (λ g. no-quorum e t (low e .below t (omega (arith, leb-false (l .t) t g)))) (either (leb (l .t) t))))
 
 pub greatest-quorum-spec : {M : Type 1} → statement M
 greatest-quorum-spec =
@@ -143,19 +144,21 @@ greatest-quorum-spec =
     (tie.spec
     Inv-loop
     μ-loop
-    add-rest
-    mul-rest
-    shared-slice-read-rest
-    loop-holds
+    add-pending
+    mul-pending
+    shared-slice-read-pending
+    returns
+    shl-own
+    cast-first
     cast-t
     sub-t
-    add-is-majority
-    mul-is-majority
-    shared-slice-read-is-majority
-    is-majority-requires
-    returns
-    shl-rest
-    sub-rest
+    loop-holds
+    sub-t-2
+    add-is-quorum
+    mul-is-quorum
+    shared-slice-read-is-quorum
+    is-quorum-requires
+    returns-2
     loop-less
     loop-again
-    returns-2)
+    returns-3)

@@ -42,7 +42,7 @@ announce-requires c κs =
     let s = h .before .before .before .before .before .before .before .before in
     let k = s .pre .0 in
     let room : s .args .counter + 1 ≤ 64 = subst (λ (x : Bool). counted x (s .args .counter) ≤ 64) (h .before .before .before .if1 .taken) (s .pre .1 .0) in
-    (h .hold .ensures .kept 64 (omega arith) (kept-mono (k .room) (omega arith) k), s .pre .1 .1)
+    (h .hold .ensures .kept 64 (omega arith) (kept-mono (k .room) (omega arith) k), s .pre .1 .1, s .pre .1 .2)
 
 same-length : tie.Need-same-length
 same-length c = search needs
@@ -77,7 +77,7 @@ announce-requires-2 : tie.Need-announce-requires-2
 announce-requires-2 c κs =
     let s = c .before .before .before .before .before .before .before in
     let k = s .pre .0 in
-    (kept-mono (k .room) (omega arith) k, s .pre .1 .1)
+    (kept-mono (k .room) (omega arith) k, s .pre .1 .1, s .pre .1 .2)
 
 same-length-2 : tie.Need-same-length-2
 same-length-2 c = search needs

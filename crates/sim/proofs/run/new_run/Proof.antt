@@ -7,7 +7,7 @@ new-flood-requires : tie.Need-new-flood-requires
 new-flood-requires c κs = search needs
 
 returns : tie.Need-returns
-returns c = new-run (c .before .args .n) (c .before .pre) (c .before .args .seed) (c .new-flood .ensures)
+returns c = new-run (c .before .args .n) (c .before .pre) (c .new-flood .ensures)
 
 pub new-run-spec : {M : Type 1} → statement M
 new-run-spec = tie.close (tie.spec new-flood-requires returns)

@@ -1,41 +1,32 @@
-use native.Mathlib.Omega.{arith}
+use Prim.Native.Nat.{ℕ, _≤_, _<_}
+use mathlib.Core.Path.{_≡_, sym, ap, ap₂}
+use mathlib.Core.Bool.{Bool, cond}
 use borrow.Author.Needs.{needs}
-use denote.Ref.{now}
-use Rattle.pipeline.proofs.Filing.{records-few}
-use Rattle.sim.proofs.Underway.{kept-all, finishes}
+use borrow.Author.Tests.{le-leb, lt-leb}
+use lib.Dec.{leb}
+use lib.ListN.{replicate}
+use Rattle.pipeline.specs.View.{tableSize}
 use Rattle.sim.proofs.run.run_pipeline.Statement.{statement}
 use Rattle.sim.proofs.run.run_pipeline.Tie as tie
 
-slice-aggregate-rounds : tie.Need-slice-aggregate-rounds
-slice-aggregate-rounds c = search needs
+-- which table it is
+few : (n : ℕ) → n ≤ 4 → tableSize n ≡ 780
+few n h = ap (λ (b : Bool). cond b 780 (cond (leb n 12) 2340 6240)) (le-leb n 4 h)
 
-slice-aggregate-rounds-2 : tie.Need-slice-aggregate-rounds-2
-slice-aggregate-rounds-2 c = search needs
+some : (n : ℕ) → 4 < n → n ≤ 12 → tableSize n ≡ 2340
+some n h l = ap₂ (λ (a b : Bool). cond a 780 (cond b 2340 6240)) (lt-leb n 4 h) (le-leb n 12 l)
 
-slice-aggregate-rounds-3 : tie.Need-slice-aggregate-rounds-3
-slice-aggregate-rounds-3 c = search needs
+all : (n : ℕ) → 4 < n → 12 < n → tableSize n ≡ 6240
+all n h l = ap₂ (λ (a b : Bool). cond a 780 (cond b 2340 6240)) (lt-leb n 4 h) (lt-leb n 12 l)
 
-rounds-requires : tie.Need-rounds-requires
-rounds-requires c κs = search needs
+slice-aggregate-run-over : tie.Need-slice-aggregate-run-over
+slice-aggregate-run-over c = search needs
 
-slice-aggregate-write-logs : tie.Need-slice-aggregate-write-logs
-slice-aggregate-write-logs c = search needs
-
-write-logs-requires : tie.Need-write-logs-requires
-write-logs-requires c κs =
-    let start = c .before .before .before .before .before .before .before .before .before .before .before .before .before .before .before in
-    (kept-all (c .before .before .before .before .before .before .before .rounds .ensures .going), (start .pre .0 .few, start .pre .1 .0))
-
-slice-aggregate-write-records : tie.Need-slice-aggregate-write-records
-slice-aggregate-write-records c = search needs
-
-write-records-requires : tie.Need-write-records-requires
-write-records-requires c κs =
-    let filed = c .before .before .before .before .before .before .before .before .before .before .before .before .rounds .ensures .going .sharing .filed in
-    (omega (arith, records-few filed, filed .room), omega (arith, records-few filed, c .before .before .before .before .before .before .before .before .before .before .before .before .before .before .before .before .before .before .before .before .pre .1 .1))
-
-summary-of-requires : tie.Need-summary-of-requires
-summary-of-requires c κs = search needs
+run-over-requires : tie.Need-run-over-requires
+run-over-requires c κs =
+    let a = c .before .before .before .before .before .before .before .before .args in
+    let pre = c .before .before .before .before .before .before .before .before .pre in
+    (pre .0, pre .1 .0, pre .1 .1, ap (λ (m : ℕ). replicate m 0) (sym (few (a .n) (c .before .before .before .before .if1 .taken))))
 
 same-length : tie.Need-same-length
 same-length c = search needs
@@ -47,24 +38,69 @@ same-length-3 : tie.Need-same-length-3
 same-length-3 c = search needs
 
 returns : tie.Need-returns
-returns c =
-    let a = c .before .before .before .before .before .before .before .before .before .before .before .before .before .before .before .before .before .before .before .before .before .before .before .before .args in
-    finishes (now (a .graph)) (a .n) (a .diameter) (a .config) (c .before .before .before .before .before .before .before .before .before .before .before .before .before .before .before .before .rounds .result) _ (now (a .snapshots)) _ (c .before .before .before .before .before .before .before .before .before .before .before .before .before .before .before .before .rounds .ensures) (c .summary-of .ensures) (c .before .before .before .before .before .before .before .before .write-logs .ensures) (c .before .before .before .write-records .ensures)
+returns c = c .before .before .before .before .before .before .before .run-over .ensures
+
+slice-aggregate-run-over-2 : tie.Need-slice-aggregate-run-over-2
+slice-aggregate-run-over-2 c = search needs
+
+run-over-requires-2 : tie.Need-run-over-requires-2
+run-over-requires-2 c κs =
+    let a = c .before .before .before .before .before .before .before .before .before .args in
+    let pre = c .before .before .before .before .before .before .before .before .before .pre in
+    (pre .0, pre .1 .0, pre .1 .1, ap (λ (m : ℕ). replicate m 0) (sym (some (a .n) (c .before .before .before .before .before .if1 .left) (c .before .before .before .before .if2 .taken))))
+
+same-length-4 : tie.Need-same-length-4
+same-length-4 c = search needs
+
+same-length-5 : tie.Need-same-length-5
+same-length-5 c = search needs
+
+same-length-6 : tie.Need-same-length-6
+same-length-6 c = search needs
+
+returns-2 : tie.Need-returns-2
+returns-2 c = c .before .before .before .before .before .before .before .run-over2 .ensures
+
+slice-aggregate-run-over-3 : tie.Need-slice-aggregate-run-over-3
+slice-aggregate-run-over-3 c = search needs
+
+run-over-requires-3 : tie.Need-run-over-requires-3
+run-over-requires-3 c κs =
+    let a = c .before .before .before .before .before .before .before .before .before .args in
+    let pre = c .before .before .before .before .before .before .before .before .before .pre in
+    (pre .0, pre .1 .0, pre .1 .1, ap (λ (m : ℕ). replicate m 0) (sym (all (a .n) (c .before .before .before .before .before .if1 .left) (c .before .before .before .before .if2 .left))))
+
+same-length-7 : tie.Need-same-length-7
+same-length-7 c = search needs
+
+same-length-8 : tie.Need-same-length-8
+same-length-8 c = search needs
+
+same-length-9 : tie.Need-same-length-9
+same-length-9 c = search needs
+
+returns-3 : tie.Need-returns-3
+returns-3 c = c .before .before .before .before .before .before .before .run-over3 .ensures
 
 pub run-pipeline-spec : {M : Type 1} → statement M
 run-pipeline-spec =
     tie.close
     (tie.spec
-    slice-aggregate-rounds
-    slice-aggregate-rounds-2
-    slice-aggregate-rounds-3
-    rounds-requires
-    slice-aggregate-write-logs
-    write-logs-requires
-    slice-aggregate-write-records
-    write-records-requires
-    summary-of-requires
+    slice-aggregate-run-over
+    run-over-requires
     same-length
     same-length-2
     same-length-3
-    returns)
+    returns
+    slice-aggregate-run-over-2
+    run-over-requires-2
+    same-length-4
+    same-length-5
+    same-length-6
+    returns-2
+    slice-aggregate-run-over-3
+    run-over-requires-3
+    same-length-7
+    same-length-8
+    same-length-9
+    returns-3)

@@ -47,7 +47,7 @@ abbrev μ-loop : tie.MeasureT-loop
 μ-loop states n proposals first shortest₀ common₀ j₀ shortest common j = n - j
 
 shared-slice-read-first : tie.Need-shared-slice-read-first Inv-loop μ-loop
-shared-slice-read-first c = omega (arith, c .before .before .pre .0 .room)
+shared-slice-read-first c = omega (arith, c .before .before .pre .0 .each 0 (c .before .before .pre .1) .fits)
 
 cast-shortest : tie.Need-cast-shortest Inv-loop μ-loop
 cast-shortest c = omega (arith, log-room (c .before .before .pre .0 .each 0 (c .before .before .pre .1)))
@@ -72,7 +72,7 @@ mul-logged-2 : tie.Need-mul-logged-2 Inv-loop μ-loop
 mul-logged-2 c = omega arith
 
 shared-slice-read-logged : tie.Need-shared-slice-read-logged Inv-loop μ-loop
-shared-slice-read-logged c = omega (arith, c .before .before .before .before .before .pre .0 .room, c .before .before .before .before .before .pre .2)
+shared-slice-read-logged c = omega (arith, c .before .before .before .before .before .pre .0 .each (c .before .before .loop .j) (omega arith) .fits)
 
 cast-smaller : tie.Need-cast-smaller Inv-loop μ-loop
 cast-smaller c =
