@@ -118,11 +118,11 @@ numbers-equal p q e =
     let back = back-by (p .piggyback) (q .piggyback) (e 8 (omega arith)) (e 9 (omega arith)) again in
     λ i.
     record {
-      «current_term» = record { 0 = e 0 (omega arith) i };
+      «current_term» = record { 0 = e 1 (omega arith) i };
       «last_accepted_term» = last i;
       «flags_bitmap» = e 2 (omega arith) i;
-      «nack_term» = record { 0 = e 1 (omega arith) i };
-      sender = record { 0 = e 3 (omega arith) i };
+      «nack_term» = record { 0 = e 3 (omega arith) i };
+      sender = record { 0 = e 0 (omega arith) i };
       «proposal_data» = proposal i;
       piggyback = back i;
     }

@@ -75,10 +75,10 @@ backData (Piggyback.Of t d) = d
 
 abbrev pub numbersOf : Packet → List ℕ
 numbersOf p =
-    p .«current_term» .0
-    ∷ p .«nack_term» .0
+    p .sender .0
+    ∷ p .«current_term» .0
     ∷ p .«flags_bitmap»
-    ∷ p .sender .0
+    ∷ p .«nack_term» .0
     ∷ acceptedCase (p .«last_accepted_term»)
     ∷ acceptedTerm (p .«last_accepted_term»)
     ∷ dataCase (p .«proposal_data»)

@@ -98,7 +98,8 @@ fn back_data(b: Piggyback) -> Data
 }
 
 // The packet as twelve numbers, by which two packets are equal exactly when all numbers are: of an
-// enum which case it is, and its term, 0 where there is none.
+// enum which case it is, and its term, 0 where there is none. The sender comes first, as it tells most
+// packets apart.
 pub fn numbers(p: Packet) -> [u64; 12]
     ensures { λ r. ⌜ r ≡ numbersOf p ⌝ }
 {
@@ -107,10 +108,10 @@ pub fn numbers(p: Packet) -> [u64; 12]
     let back = p.piggyback;
     let again = back_data(back);
     [
-        p.current_term.0,
-        p.nack_term.0,
-        p.flags_bitmap,
         p.sender.0 as u64,
+        p.current_term.0,
+        p.flags_bitmap,
+        p.nack_term.0,
         accepted_case(last),
         accepted_term(last),
         data_case(data),

@@ -19,8 +19,8 @@ use phy::packet::Piggyback;
 ghost use mathlib.Core.Path.{_≡_};
 ghost use Prim.Native.Nat.{_-_, _<_, _≤_};
 ghost use Rattle.protocol.specs.Paxos.{vote};
-ghost use Rattle.protocol.specs.Turns.{nack, counted, announce, initiatorTurn, takeData, takePiggyback, participantTurn};
-ghost use Rattle.protocol.specs.View.{view, Kept, Next, Carried, proposalBelow, backBelow, Announces, Initiates, Takes};
+ghost use Rattle.protocol.specs.Turns.{nack, counted, currentTerm, proposalData, propose, announce, initiatorTurn, takeData, takePiggyback, participantTurn};
+ghost use Rattle.protocol.specs.View.{view, Wrote, Kept, Next, Carried, proposalBelow, backBelow, Announces, Initiates, Takes};
 
 // What the initiator's turn gives beside its state: the packet, and the set of terms newly committed.
 pub struct Prepared {
@@ -90,6 +90,37 @@ fn announce(
     Prepared { packet, newly }
 }
 
+// The current term: the new proposal's, else the one before the counter.
+fn current_term(counter: u64, proposes: bool) -> Term
+    ensures { λ r. ⌜ r .0 ≡ currentTerm proposes counter ⌝ }
+{
+    if proposes {
+        return Term(counter);
+    }
+    Term(before(counter))
+}
+
+// The data of the new proposal, or none.
+fn proposal_data(counter: u64, proposes: bool) -> Data
+    ensures { λ r. ⌜ r ≡ proposalData proposes counter ⌝ }
+{
+    if proposes {
+        return Data::Of(Term(counter));
+    }
+    Data::Empty
+}
+
+// A new proposal, if one is made, becomes pending with the node's own vote.
+fn propose(states: &mut [u64], at: usize, node: NodeId, counter: u64, proposes: bool)
+    requires { ⌜ Kept counter (now states) at × (counted proposes counter ≤ 64) × (node .0 < 64) ⌝ }
+    ensures { λ _. ⌜ Wrote at (now (states .entry)) (now (states .exit)) × Kept (counted proposes counter) (now (states .exit)) at × (view (now (states .exit)) at ≡ propose proposes (node .0) counter (view (now (states .entry)) at)) ⌝ }
+{
+    if proposes {
+        let data = Data::Of(Term(counter));
+        hold(states, at, Term(counter), vote_of(node), data);
+    }
+}
+
 // The initiator's turn: `counter` is the number of proposals made before it, `proposes` says whether
 // one is left to be made, and `piggyback` is what the round before it has set.
 pub fn initiator_turn(
@@ -105,13 +136,10 @@ pub fn initiator_turn(
     ensures { λ r. ⌜ Initiates proposes counter piggyback at (now (states .entry)) r (now (states .exit)) (initiatorTurn (node .0) n counter proposes piggyback (view (now (states .entry)) at)) ⌝ }
 {
     let nack = nack_of(detect_gap(states, at, Term(counter)));
-    if proposes {
-        let data = Data::Of(Term(counter));
-        hold(states, at, Term(counter), vote_of(node), data);
-        return announce(states, at, node, n, Term(counter), nack, data, piggyback);
-    }
-    let current = Term(before(counter));
-    announce(states, at, node, n, current, nack, Data::Empty, piggyback)
+    propose(states, at, node, counter, proposes);
+    let current = current_term(counter, proposes);
+    let data = proposal_data(counter, proposes);
+    announce(states, at, node, n, current, nack, data, piggyback)
 }
 
 // Received proposal data becomes pending.

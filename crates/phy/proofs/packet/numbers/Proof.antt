@@ -37,10 +37,10 @@ returns c =
     let p = c .before .before .before .before .before .before .before .before .before .args .p in
     let again = c .before .before .before .before .before .before .before .before .back-data .ensures in
     λ i.
-    p .«current_term» .0
-    ∷ p .«nack_term» .0
+    p .sender .0
+    ∷ p .«current_term» .0
     ∷ p .«flags_bitmap»
-    ∷ p .sender .0
+    ∷ p .«nack_term» .0
     ∷ c .before .before .before .before .before .before .before .accepted-case .ensures i
     ∷ c .before .before .before .before .before .before .accepted-term .ensures i
     ∷ c .before .before .before .before .before .data-case .ensures i

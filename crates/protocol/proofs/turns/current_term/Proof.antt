@@ -1,0 +1,18 @@
+use mathlib.Core.Path.{sym, ap, _∙_}
+use mathlib.Core.Bool.{Bool}
+use borrow.Author.Needs.{needs}
+use Rattle.protocol.specs.Turns.{currentTerm}
+use Rattle.protocol.proofs.turns.current_term.Statement.{statement}
+use Rattle.protocol.proofs.turns.current_term.Tie as tie
+
+returns : tie.Need-returns
+returns c = sym (ap (λ (b : Bool). currentTerm b (c .before .args .counter)) (c .if1 .taken))
+
+before-requires : tie.Need-before-requires
+before-requires c κs = search needs
+
+returns-2 : tie.Need-returns-2
+returns-2 c = c .before2 .ensures ∙ sym (ap (λ (b : Bool). currentTerm b (c .before .before .args .counter)) (c .before .if1 .left))
+
+pub current-term-spec : {M : Type 1} → statement M
+current-term-spec = tie.close (tie.spec returns before-requires returns-2)
