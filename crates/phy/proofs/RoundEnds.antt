@@ -26,7 +26,7 @@ use Rattle.phy.specs.Node.{new, begunBy, deliveredTo, holding, listens, 
 use Rattle.phy.specs.Packets.{numbersOf, holds}
 use Rattle.phy.specs.Slot.{Standing, at, insert, sumOf}
 use Rattle.phy.specs.Round.{begun, delivered, withNodes, participants, coverage}
-use Rattle.phy.specs.View.{Gave, Holding, Stands, Queued, placeAfter, begunFlood, Delivers, sameNumbers}
+use Rattle.phy.specs.View.{Gave, Holding, Stands, Queued, Cleared, placeAfter, begunFlood, Delivers, sameNumbers}
 use Rattle.phy.proofs.Masks.{has-zero, has-insert, insert-lt}
 use Rattle.phy.proofs.Nodes.{delivered-state, count-cong, total-begun, total-delivered}
 use Rattle.phy.proofs.Numbers.{same-numbers}
@@ -159,16 +159,16 @@ module _ (n repeats first : ℕ) (packet : Packet) (x : Floods) (h h' b : List �
       }
 
 -- the same of what the code's begin gave
-pub opens : (n repeats first : ℕ) (packet : Packet) {key : List ℕ} {x y : Floods} (e : List ℕ) {e' h h' b : List ℕ} {s : Standing} → first < n → n ≤ 64 → 1 ≤ repeats
-    → repeats ≤ length e → ((i : ℕ) → i < repeats → getD e i 0 ≡ 0)
+pub opens : (n repeats first : ℕ) (packet : Packet) {key : List ℕ} {x y : Floods} {e₀ e e' h h' b : List ℕ} {s : Standing} → first < n → n ≤ 64 → 1 ≤ repeats
+    → repeats ≤ length e → Cleared repeats e₀ e
     → key ≡ numbersOf packet → y ≡ begunFlood n first x → e' ≡ set e (repeats - 1) (2 ^ first) → Gave first key h h' → Stands n x h b s
     → Stands n y h' b (withNodes (begun n repeats first packet (s .nodes)) s) × Queued n repeats e' 0 (begun n repeats first packet (s .nodes))
-opens n repeats first packet {key} {x} {y} e {e'} {h} {h'} {b} {s} few most some room none k f w gave st =
+opens n repeats first packet {key} {x} {y} {e₀} {e} {e'} {h} {h'} {b} {s} few most some room cleared k f w gave st =
     let gave' = subst (λ (m : List ℕ). Gave first m h h') k gave in (
       subst⁻¹ (λ (z : Floods). Stands n z h' b (withNodes (begun n repeats first packet (s .nodes)) s)) f
           (begun-stands n repeats first packet x h h' b s few most some gave' st),
       subst⁻¹ (λ (m : List ℕ). Queued n repeats m 0 (begun n repeats first packet (s .nodes))) w
-          (begun-queued n repeats first packet x h h' b s few most some gave' st e room none),
+          (begun-queued n repeats first packet x h h' b s few most some gave' st e room (cleared .empty)),
     )
 
 -- ---- a round ends

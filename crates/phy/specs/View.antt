@@ -140,9 +140,10 @@ pub record Stepped (g : Settings) (rows : List ℕ) (p : ℕ) (x : Flood) (e w b
       × Queued (g .nodes) (g .repeats) e' (placeAfter (g .repeats) p 1) (slotStep (setupOf g rows seed) s .nodes)
 
 -- The same of the slots of a round, of which there are at most so many; the queue e begins at place 0.
-pub record Slotted (g : Settings) (rows : List ℕ) (limit : ℕ) (x : Flood) (e w b : List ℕ) (r : Flood) (w' b' : List ℕ) : Type 0 where
+pub record Slotted (g : Settings) (rows : List ℕ) (limit : ℕ) (x : Flood) (e w b : List ℕ) (r : Flood) (e' w' b' : List ℕ) : Type 0 where
   pub sound : Sound g r
   pub slots : r .slot .0 ≤ x .slot .0 + limit
+  pub room : length e' ≡ length e
   pub words : length w' ≡ length w
   pub size : length b' ≡ length b
   pub ready : (seed : ℕ) → Ready (g .rate) seed (x .attempts) w → Ready (g .rate) seed (r .attempts) w'
@@ -167,6 +168,11 @@ begunFlood n first x =
       snapshots = x .snapshots;
     }
 
+-- the first places of a queue are empty
+pub record Cleared (count : ℕ) (e e' : List ℕ) : Type 0 where
+  pub size : length e' ≡ length e
+  pub empty : (i : ℕ) → i < count → getD e' i 0 ≡ 0
+
 -- whether node k's places of h are these numbers
 abbrev pub sameNumbers : List ℕ → List ℕ → ℕ → Bool
 sameNumbers h packet k = all 12 (λ (m : ℕ). eqb (getD h (12 * k + m) 0) (getD packet m 0))
@@ -182,9 +188,10 @@ pub record Delivers (n first : ℕ) (packet : List ℕ) (awake before : ℕ) (h 
   pub kept : (k : ℕ) → k < n → has awake k ≡ true → (m : ℕ) → m < 12 → getD h' (12 * k + m) 0 ≡ getD h (12 * k + m) 0
 
 -- The same of a whole round.
-pub record Rounded (g : Settings) (rows : List ℕ) (limit initiator : ℕ) (packet : Packet) (x : Flood) (w h b : List ℕ) (r : Round) (w' h' b' : List ℕ) : Type 0 where
+pub record Rounded (g : Settings) (rows : List ℕ) (limit initiator : ℕ) (packet : Packet) (x : Flood) (e w h b : List ℕ) (r : Round) (e' w' h' b' : List ℕ) : Type 0 where
   pub sound : Sound g (r .flood)
   pub slots : r .flood .slot .0 ≤ x .slot .0 + limit
+  pub room : length e' ≡ length e
   pub words : length w' ≡ length w
   pub held : length h' ≡ length h
   pub size : length b' ≡ length b

@@ -14,7 +14,7 @@ ghost use lib.ListN.{length, set};
 ghost use Rattle.random.specs.Reception.{Ready};
 ghost use Rattle.phy.specs.Slot.{Standing};
 ghost use Rattle.phy.specs.Round.{lengthLimit};
-ghost use Rattle.phy.specs.View.{Gave, Sound, Stands, Meets, begunFlood, placeAfter, Slotted, Delivers, Rounded};
+ghost use Rattle.phy.specs.View.{Gave, Sound, Stands, Meets, begunFlood, placeAfter, Cleared, Slotted, Delivers, Rounded};
 
 // The configured length of a round, or none.
 pub enum RoundSlots {
@@ -97,7 +97,7 @@ fn slots(
     buffer: &mut [u64],
 ) -> Flood
     requires { ⌜ Sound settings flood × (flood .slot .0 + limit < 2 ^ 40) × (64 ≤ length (now ends)) × (24 ≤ length (now words)) × Meets settings flood (now ends) 0 (now words) (now buffer) ⌝ }
-    ensures { λ r. ⌜ Slotted settings (now (rows .entry)) limit flood (now (ends .entry)) (now (words .entry)) (now (buffer .entry)) r (now (words .exit)) (now (buffer .exit)) ⌝ }
+    ensures { λ r. ⌜ Slotted settings (now (rows .entry)) limit flood (now (ends .entry)) (now (words .entry)) (now (buffer .entry)) r (now (ends .exit)) (now (words .exit)) (now (buffer .exit)) ⌝ }
 {
     let mut x = flood;
     let mut more = limit;
@@ -138,6 +138,16 @@ fn deliver(
     }
 }
 
+// The first places of a queue are empty.
+fn clear(ends: &mut [u64], count: usize)
+    requires { ⌜ count ≤ length (now ends) ⌝ }
+    ensures { λ _. ⌜ Cleared count (now (ends .entry)) (now (ends .exit)) ⌝ }
+{
+    for i in 0..count {
+        ends[i] = 0;
+    }
+}
+
 // One round: a packet flooded by the initiator.
 pub fn flood_identical_round(
     settings: Settings,
@@ -146,17 +156,18 @@ pub fn flood_identical_round(
     initiator: NodeId,
     packet: Packet,
     flood: Flood,
+    ends: &mut [u64],
     words: &mut [u32],
     held: &mut [u64],
     buffer: &mut [u64],
 ) -> Round
-    requires { ⌜ Sound settings flood × (initiator .0 < settings .nodes) × (flood .slot .0 + limit < 2 ^ 40) × (24 ≤ length (now words)) × (384 ≤ length (now held)) × ((seed : ℕ) × (s : Standing) × Ready (settings .rate) seed (flood .attempts) (now words) × Stands (settings .nodes) flood (now held) (now buffer) s) ⌝ }
-    ensures { λ r. ⌜ Rounded settings (now (rows .entry)) limit (initiator .0) packet flood (now (words .entry)) (now (held .entry)) (now (buffer .entry)) r (now (words .exit)) (now (held .exit)) (now (buffer .exit)) ⌝ }
+    requires { ⌜ Sound settings flood × (initiator .0 < settings .nodes) × (flood .slot .0 + limit < 2 ^ 40) × (64 ≤ length (now ends)) × (24 ≤ length (now words)) × (384 ≤ length (now held)) × ((seed : ℕ) × (s : Standing) × Ready (settings .rate) seed (flood .attempts) (now words) × Stands (settings .nodes) flood (now held) (now buffer) s) ⌝ }
+    ensures { λ r. ⌜ Rounded settings (now (rows .entry)) limit (initiator .0) packet flood (now (ends .entry)) (now (words .entry)) (now (held .entry)) (now (buffer .entry)) r (now (ends .exit)) (now (words .exit)) (now (held .exit)) (now (buffer .exit)) ⌝ }
 {
     let key = numbers(packet);
-    let mut ends = [0u64; 64];
-    let x = begin(settings, initiator, key, flood, &mut ends, held);
-    let mut ended = slots(settings, rows, limit, x, &mut ends, words, buffer);
+    clear(ends, settings.repeats as usize);
+    let x = begin(settings, initiator, key, flood, ends, held);
+    let mut ended = slots(settings, rows, limit, x, ends, words, buffer);
     let awake = ended.listening | ended.flooding;
     let done = deliver(settings.nodes, initiator, key, awake, ended.holding, held);
     ended.holding = done.holding;

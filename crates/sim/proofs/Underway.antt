@@ -57,11 +57,11 @@ module _ {n : ℕ} {c : Config} {k : ℕ} {x : Run} {t : Tables} {b : List ℕ} 
       (cond (eqb (count-is i) (c .«num_proposals») && ltb (c .«num_proposals» + 5 * d) j) 2 (cond (ltb (c .«num_proposals» + 1000) j) 3 0))
 
 -- before the first round
-pub underway-new : (rows : List ℕ) (n d : ℕ) (c : Config) (b : List ℕ) (x : Run) (t : Tables) (words : List ℕ) → Accepted rows n d c → NewRun n x → length words ≡ 24 → Before (c .seed) 0 words
-    → t ≡ zeros n words
+pub underway-new : (rows : List ℕ) (n d : ℕ) (c : Config) (b : List ℕ) (x : Run) (t : Tables) (ends words : List ℕ) → Accepted rows n d c → NewRun n x → length ends ≡ 64 → length words ≡ 24
+    → Before (c .seed) 0 words → t ≡ zeros n ends words
     → Underway (givenAs rows n d c) c (c .«num_proposals» + 1002) 0 x t b b
 unfolding run
-underway-new rows n d c b x t words ok new size before e =
+underway-new rows n d c b x t ends words ok new room size before e =
     let g = givenAs rows n d c in
     let all : c .«num_proposals» + 1002 - 0 ≡ c .«num_proposals» + 1002 = omega arith in
     subst⁻¹ (λ (y : Tables). Underway g c (c .«num_proposals» + 1002) 0 x y b b) e
@@ -77,6 +77,7 @@ underway-new rows n d c b x t words ok new size before e =
         ready = subst⁻¹ (λ (k : ℕ). Ready (c .«loss_rate») (c .seed) k words) (new .flood .untried) (inr before);
         slots = omega (arith, new .flood .first);
         few = omega (arith, new .covered);
+        ends-size = room;
         words-size = size;
         held-size = refl;
       };
@@ -146,6 +147,7 @@ progress-as u =
       ready = u .ready;
       slots = u .slots;
       few = u .few;
+      ends-size = u .ends-size;
       words-size = u .words-size;
       held-size = u .held-size;
     }

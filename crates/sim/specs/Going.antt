@@ -20,16 +20,17 @@ abbrev pub settingsOf : ℕ → Config → ℕ → Settings
 settingsOf n c progress =
     record { nodes = n; repeats = c .«flood_repeats»; interval = c .«snapshot_interval»; progress = progress; rate = c .«loss_rate» }
 
--- What the lent slices hold: the words of the draws, the packets held, the Paxos states, and the starts and records.
+-- What the lent slices hold: the queue of the flooding nodes, the words of the draws, the packets held, the Paxos states, and the starts and records.
 pub record Tables : Type 0 where
+  pub ends : List ℕ
   pub words : List ℕ
   pub held : List ℕ
   pub states : List ℕ
   pub table : List ℕ
 
--- before the first round of n nodes, with these words
-abbrev pub zeros : ℕ → List ℕ → Tables
-zeros n words = record { words = words; held = replicate 384 0; states = replicate (tableSize n) 0; table = replicate 256 0 }
+-- before the first round of n nodes, with any queue and these words
+abbrev pub zeros : ℕ → List ℕ → List ℕ → Tables
+zeros n ends words = record { ends = ends; words = words; held = replicate 384 0; states = replicate (tableSize n) 0; table = replicate 256 0 }
 
 -- After k rounds of n nodes the code stands at x, with the tables t and the snapshot buffer b, and the run of the definitions at s.
 pub record Going (n : ℕ) (c : Config) (k : ℕ) (x : Run) (t : Tables) (b : List ℕ) (s : Running) : Type 0 where
@@ -42,6 +43,7 @@ pub record Going (n : ℕ) (c : Config) (k : ℕ) (x : Run) (t : Tables) (b : Li
   pub ready : Ready (c .«loss_rate») (c .seed) (x .flood .attempts) (t .words)
   pub slots : x .flood .slot .0 ≤ 4096 * k
   pub few : x .covered ≤ 32 * k
+  pub ends-size : length (t .ends) ≡ 64
   pub words-size : length (t .words) ≡ 24
   pub held-size : length (t .held) ≡ 384
 

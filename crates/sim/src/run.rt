@@ -92,14 +92,15 @@ fn run_round(
     config: Config,
     k: u64,
     x: Run,
+    ends: &mut [u64],
     words: &mut [u32],
     held: &mut [u64],
     states: &mut [u64],
     table: &mut [u64],
     snapshots: &mut [u64],
 ) -> Run
-    requires { ⌜ Accepted (now graph) n diameter config × (k < 2 ^ 20) × ((s : Running) × Going n config k x (record { words = now words; held = now held; states = now states; table = now table }) (now snapshots) s × (x .progress ≡ shortestLog (s .shared .states) n)) ⌝ }
-    ensures { λ r. ⌜ ((s : Running) → x .progress ≡ shortestLog (s .shared .states) n → Going n config k x (record { words = now (words .entry); held = now (held .entry); states = now (states .entry); table = now (table .entry) }) (now (snapshots .entry)) s → Going n config (k + 1) r (record { words = now (words .exit); held = now (held .exit); states = now (states .exit); table = now (table .exit) }) (now (snapshots .exit)) (runRound (givenAs (now (graph .entry)) n diameter config) k s)) ⌝ }
+    requires { ⌜ Accepted (now graph) n diameter config × (k < 2 ^ 20) × ((s : Running) × Going n config k x (record { ends = now ends; words = now words; held = now held; states = now states; table = now table }) (now snapshots) s × (x .progress ≡ shortestLog (s .shared .states) n)) ⌝ }
+    ensures { λ r. ⌜ ((s : Running) → x .progress ≡ shortestLog (s .shared .states) n → Going n config k x (record { ends = now (ends .entry); words = now (words .entry); held = now (held .entry); states = now (states .entry); table = now (table .entry) }) (now (snapshots .entry)) s → Going n config (k + 1) r (record { ends = now (ends .exit); words = now (words .exit); held = now (held .exit); states = now (states .exit); table = now (table .exit) }) (now (snapshots .exit)) (runRound (givenAs (now (graph .entry)) n diameter config) k s)) ⌝ }
 {
     let initiator = NodeId((k % (n as u64)) as usize);
     let flood = x.flood;
@@ -124,6 +125,7 @@ fn run_round(
         initiator,
         packet,
         flood,
+        ends,
         words,
         held,
         snapshots,
@@ -161,14 +163,15 @@ fn rounds(
     n: usize,
     diameter: usize,
     config: Config,
+    ends: &mut [u64],
     words: &mut [u32],
     held: &mut [u64],
     states: &mut [u64],
     table: &mut [u64],
     snapshots: &mut [u64],
 ) -> Ended
-    requires { ⌜ Accepted (now graph) n diameter config × (length (now words) ≡ 24) × Before (config .seed) 0 (now words) × (now held ≡ replicate 384 0) × (now states ≡ replicate (tableSize n) 0) × (now table ≡ replicate 256 0) ⌝ }
-    ensures { λ r. ⌜ Ends (givenAs (now (graph .entry)) n diameter config) config r (record { words = now (words .exit); held = now (held .exit); states = now (states .exit); table = now (table .exit) }) (now (snapshots .entry)) (now (snapshots .exit)) ⌝ }
+    requires { ⌜ Accepted (now graph) n diameter config × (length (now ends) ≡ 64) × (length (now words) ≡ 24) × Before (config .seed) 0 (now words) × (now held ≡ replicate 384 0) × (now states ≡ replicate (tableSize n) 0) × (now table ≡ replicate 256 0) ⌝ }
+    ensures { λ r. ⌜ Ends (givenAs (now (graph .entry)) n diameter config) config r (record { ends = now (ends .exit); words = now (words .exit); held = now (held .exit); states = now (states .exit); table = now (table .exit) }) (now (snapshots .entry)) (now (snapshots .exit)) ⌝ }
 {
     let proposals = config.num_proposals;
     let most = proposals + 1002;
@@ -189,6 +192,7 @@ fn rounds(
             config,
             k,
             x,
+            ends,
             words,
             held,
             states,
@@ -257,6 +261,7 @@ fn run_over(
     requires { ⌜ Accepted (now graph) n diameter config × (2080 ≤ length (now logs)) × (192 ≤ length (now records)) × (now states ≡ replicate (tableSize n) 0) ⌝ }
     ensures { λ r. ⌜ Finishes (givenAs (now (graph .entry)) n diameter config) r (now (logs .entry)) (now (records .entry)) (now (snapshots .entry)) (now (logs .exit)) (now (records .exit)) (now (snapshots .exit)) ⌝ }
 {
+    let mut ends = [0u64; 64];
     let mut words = [0u32; 24];
     begin_draws(&mut words, config.seed);
     let mut held = [0u64; 384];
@@ -266,6 +271,7 @@ fn run_over(
         n,
         diameter,
         config,
+        &mut ends,
         &mut words,
         &mut held,
         states,

@@ -69,6 +69,7 @@ returns c =
     record {
       sound = stepped .sound;
       slots = omega (arith, stepped .slots, l .inv .1, test);
+      room = stepped .room ∙ l .inv .2;
       words = stepped .words ∙ l .inv .7;
       size = stepped .size ∙ l .inv .3;
       ready = λ seed r. stepped .ready seed (l .inv .5 seed r);
@@ -137,6 +138,7 @@ returns-2 c =
     record {
       sound = l .inv .0;
       slots = omega (arith, l .inv .1);
+      room = l .inv .2;
       words = l .inv .7;
       size = l .inv .3;
       ready = l .inv .5;

@@ -22,24 +22,27 @@ slice-aggregate-rounds-2 c = search needs
 slice-aggregate-rounds-3 : tie.Need-slice-aggregate-rounds-3
 slice-aggregate-rounds-3 c = search needs
 
+slice-aggregate-rounds-4 : tie.Need-slice-aggregate-rounds-4
+slice-aggregate-rounds-4 c = search needs
+
 rounds-requires : tie.Need-rounds-requires
 rounds-requires c κs =
-    let pre = c .before .before .before .before .before .before .before .before .before .before .before .before .pre in
-    let begun = c .before .before .before .before .before .before .begin-draws .ensures in
-    (pre .0, begun .0, begun .1, refl, pre .3, refl)
+    let pre = c .before .before .before .before .before .before .before .before .before .before .before .before .before .pre in
+    let begun = c .before .before .before .before .before .before .before .begin-draws .ensures in
+    (pre .0, refl, begun .0, begun .1, refl, pre .3, refl)
 
 write-logs-requires : tie.Need-write-logs-requires
 write-logs-requires c κs =
-    let start = c .before .before .before .before .before .before .before .before .before .before .before .before .before .before .before .before .before .before .before .before .before .before in
-    (kept-all (c .before .before .before .before .before .before .before .before .before .rounds .ensures .going), (start .pre .0 .few, start .pre .1))
+    let start = c .before .before .before .before .before .before .before .before .before .before .before .before .before .before .before .before .before .before .before .before .before .before .before .before in
+    (kept-all (c .before .before .before .before .before .before .before .before .before .before .rounds .ensures .going), (start .pre .0 .few, start .pre .1))
 
 slice-aggregate-write-records : tie.Need-slice-aggregate-write-records
 slice-aggregate-write-records c = search needs
 
 write-records-requires : tie.Need-write-records-requires
 write-records-requires c κs =
-    let filed = c .before .before .before .before .before .before .before .before .before .before .before .before .before .before .rounds .ensures .going .sharing .filed in
-    (omega (arith, records-few filed, filed .room), omega (arith, records-few filed, c .before .before .before .before .before .before .before .before .before .before .before .before .before .before .before .before .before .before .before .before .before .before .before .before .before .before .before .pre .2))
+    let filed = c .before .before .before .before .before .before .before .before .before .before .before .before .before .before .before .rounds .ensures .going .sharing .filed in
+    (omega (arith, records-few filed, filed .room), omega (arith, records-few filed, c .before .before .before .before .before .before .before .before .before .before .before .before .before .before .before .before .before .before .before .before .before .before .before .before .before .before .before .before .before .pre .2))
 
 summary-of-requires : tie.Need-summary-of-requires
 summary-of-requires c κs = search needs
@@ -58,8 +61,8 @@ same-length-4 c = search needs
 
 returns : tie.Need-returns
 returns c =
-    let a = c .before .before .before .before .before .before .before .before .before .before .before .before .before .before .before .before .before .before .before .before .before .before .before .before .before .before .before .before .before .before .before .args in
-    finishes (now (a .graph)) (a .n) (a .diameter) (a .config) (c .before .before .before .before .before .before .before .before .before .before .before .before .before .before .before .before .before .before .rounds .result) _ (now (a .snapshots)) _ (c .before .before .before .before .before .before .before .before .before .before .before .before .before .before .before .before .before .before .rounds .ensures) (c .summary-of .ensures) (c .before .before .before .before .before .before .before .before .write-logs .ensures) (c .before .before .before .write-records .ensures)
+    let a = c .before .before .before .before .before .before .before .before .before .before .before .before .before .before .before .before .before .before .before .before .before .before .before .before .before .before .before .before .before .before .before .before .before .args in
+    finishes (now (a .graph)) (a .n) (a .diameter) (a .config) (c .before .before .before .before .before .before .before .before .before .before .before .before .before .before .before .before .before .before .before .rounds .result) _ (now (a .snapshots)) _ (c .before .before .before .before .before .before .before .before .before .before .before .before .before .before .before .before .before .before .before .rounds .ensures) (c .summary-of .ensures) (c .before .before .before .before .before .before .before .before .write-logs .ensures) (c .before .before .before .write-records .ensures)
 
 pub run-over-spec : {M : Type 1} → statement M
 run-over-spec =
@@ -70,6 +73,7 @@ run-over-spec =
     slice-aggregate-rounds
     slice-aggregate-rounds-2
     slice-aggregate-rounds-3
+    slice-aggregate-rounds-4
     rounds-requires
     write-logs-requires
     slice-aggregate-write-records
