@@ -1,5 +1,7 @@
 // ChaCha after RFC 8439, section 2, with the number of double rounds as a parameter.
 ghost use mathlib.Core.Path.{_≡_};
+ghost use Prim.Native.Nat.{_<_};
+ghost use lib.ListN.{getD};
 ghost use Rattle.random.specs.ChaCha as ChaCha;
 use super::word::rotate_left;
 
@@ -31,35 +33,28 @@ pub fn quarter_round(q: Quad) -> Quad
     }
 }
 
+// The quarter round on the words at four places of the state.
+fn quarter_of(s: [u32; 16], x: usize, y: usize, z: usize, w: usize) -> Quad
+    requires { ⌜ (x < 16) × (y < 16) × (z < 16) × (w < 16) ⌝ }
+    ensures { λ r. ⌜ r ≡ ChaCha.quarter (record { a = getD s x 0; b = getD s y 0; c = getD s z 0; d = getD s w 0 }) ⌝ }
+{
+    quarter_round(Quad {
+        a: s[x],
+        b: s[y],
+        c: s[z],
+        d: s[w],
+    })
+}
+
 // The quarter rounds on the four columns. They touch no word in common, so one instruction can do a
 // step of all four.
 fn column_round(s: [u32; 16]) -> [u32; 16]
     ensures { λ r. ⌜ r ≡ ChaCha.columnRound s ⌝ }
 {
-    let p = quarter_round(Quad {
-        a: s[0],
-        b: s[4],
-        c: s[8],
-        d: s[12],
-    });
-    let q = quarter_round(Quad {
-        a: s[1],
-        b: s[5],
-        c: s[9],
-        d: s[13],
-    });
-    let r = quarter_round(Quad {
-        a: s[2],
-        b: s[6],
-        c: s[10],
-        d: s[14],
-    });
-    let t = quarter_round(Quad {
-        a: s[3],
-        b: s[7],
-        c: s[11],
-        d: s[15],
-    });
+    let p = quarter_of(s, 0, 4, 8, 12);
+    let q = quarter_of(s, 1, 5, 9, 13);
+    let r = quarter_of(s, 2, 6, 10, 14);
+    let t = quarter_of(s, 3, 7, 11, 15);
     [
         p.a,
         q.a,
@@ -84,30 +79,10 @@ fn column_round(s: [u32; 16]) -> [u32; 16]
 fn diagonal_round(s: [u32; 16]) -> [u32; 16]
     ensures { λ r. ⌜ r ≡ ChaCha.diagonalRound s ⌝ }
 {
-    let p = quarter_round(Quad {
-        a: s[0],
-        b: s[5],
-        c: s[10],
-        d: s[15],
-    });
-    let q = quarter_round(Quad {
-        a: s[1],
-        b: s[6],
-        c: s[11],
-        d: s[12],
-    });
-    let r = quarter_round(Quad {
-        a: s[2],
-        b: s[7],
-        c: s[8],
-        d: s[13],
-    });
-    let t = quarter_round(Quad {
-        a: s[3],
-        b: s[4],
-        c: s[9],
-        d: s[14],
-    });
+    let p = quarter_of(s, 0, 5, 10, 15);
+    let q = quarter_of(s, 1, 6, 11, 12);
+    let r = quarter_of(s, 2, 7, 8, 13);
+    let t = quarter_of(s, 3, 4, 9, 14);
     [
         p.a,
         q.a,
