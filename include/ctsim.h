@@ -16,7 +16,8 @@
  * Words. A node is a radio, numbered from 0. A slot is the unit of time: in each slot every node
  * listens, floods (sends the round's packet) or sleeps. A round is one flood of one packet; node
  * (round modulo nodes) starts it. A proposal is a piece of data to agree on; its term is its number,
- * from 0. A node's log is the terms that it committed, in that order. docs/NUMBERS.md says more.
+ * from 0. A node's log is the terms that it held when it committed them, in the order of its
+ * commits. docs/NUMBERS.md says more.
  */
 #ifndef CTSIM_H
 #define CTSIM_H
@@ -29,7 +30,7 @@ extern "C" {
 #endif
 
 /* What an entry returns. 1 to 11 are the questions, asked in this order; the first "no" is told.
- * 13 is asked before them. */
+ * 100 and above are of these entries alone; 100 is asked before the questions. */
 enum ctsim_result {
     CTSIM_DONE = 0,
     CTSIM_REFUSED_TOPOLOGY = 1,    /* the topology is not 1 to 6 */
@@ -43,8 +44,8 @@ enum ctsim_result {
     CTSIM_REFUSED_INTERVAL = 9,    /* the snapshot interval is 0 */
     CTSIM_REFUSED_BUFFERS = 10,    /* logs, records or, for ctsim_rows, rows are too short */
     CTSIM_REFUSED_RATIO = 11,      /* a count of the ratio is above 2^53 */
-    CTSIM_REFUSED_SHORT = 13,      /* the slice for the summary, or for the single result, is too short */
-    CTSIM_NO_RATIO = 14            /* no refusal: there is no ratio, as the second count is 0 */
+    CTSIM_SHORT = 100,             /* the slice for the summary, or for the single result, is too short */
+    CTSIM_NO_RATIO = 101           /* no refusal: there is no ratio, as the second count is 0 */
 };
 
 enum ctsim_topology {
@@ -100,7 +101,7 @@ uint64_t ctsim_draws(uint64_t seed, uint64_t *out, size_t out_length);
  *   second    0; for a grid its columns, for a tree its branching
  *   rows      at least as many places as there are nodes
  *   nodes     at least 1 place
- * Returns 0, 1, 2, 3, 10 or 13.
+ * Returns 0, 1, 2, 3, 10 or 100.
  */
 uint64_t ctsim_rows(uint64_t topology, uint64_t first, uint64_t second,
                     uint32_t *rows, size_t rows_length,
@@ -111,7 +112,7 @@ uint64_t ctsim_rows(uint64_t topology, uint64_t first, uint64_t second,
  * links, where pairs that no path joins are passed over. j is in row i exactly when i is in row j;
  * no node is in its own row, and none at or above n in any. Rows beyond the first n are not read.
  *   links     at least 1 place
- * Returns 0, 2, 4 or 13.
+ * Returns 0, 2, 4 or 100.
  */
 uint64_t ctsim_diameter(const uint32_t *rows, size_t rows_length, uint64_t n,
                         uint64_t *links, size_t links_length);
@@ -120,7 +121,7 @@ uint64_t ctsim_diameter(const uint32_t *rows, size_t rows_length, uint64_t n,
  * Writes part / whole to out[0], as a double that is rounded once. For a run's links take successes
  * and attempts, for its coverage CTSIM_COVERED and CTSIM_FLOOD_NODES.
  *   out       at least 1 place
- * Returns 0, 11, 13, or 14 if whole is 0, where there is no ratio.
+ * Returns 0, 11, 100, or 101 if whole is 0, where there is no ratio.
  */
 uint64_t ctsim_ratio(uint64_t part, uint64_t whole, double *out, size_t out_length);
 
@@ -144,7 +145,7 @@ uint64_t ctsim_ratio(uint64_t part, uint64_t whole, double *out, size_t out_leng
  *   snapshots          any length: snapshots[5 * k] and on has the slot of snapshot k, the length of
  *                      the shortest log after the last round that ended, and how many nodes listen,
  *                      flood and sleep; those that fit whole are stored
- * Returns 0, 1, 2, 3, 5 to 10, or 13.
+ * Returns 0, 1, 2, 3, 5 to 10, or 100.
  */
 uint64_t ctsim_run_topology(uint64_t topology, uint64_t first, uint64_t second,
                             uint64_t repeats, uint64_t round_slots_given, uint64_t round_slots,
@@ -157,7 +158,7 @@ uint64_t ctsim_run_topology(uint64_t topology, uint64_t first, uint64_t second,
 
 /*
  * Runs n nodes with these rows. Rows are as for ctsim_diameter, all else as for ctsim_run_topology.
- * Returns 0, 2, 4 to 10, or 13.
+ * Returns 0, 2, 4 to 10, or 100.
  */
 uint64_t ctsim_run_rows(const uint32_t *rows, size_t rows_length, uint64_t n,
                         uint64_t repeats, uint64_t round_slots_given, uint64_t round_slots,

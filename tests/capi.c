@@ -101,8 +101,8 @@ static void test_rows(void)
     rows_give(CTSIM_TREE, 5, 33, 36, 1, 3, 0, line, "rows: tree refused 3");
     rows_give(CTSIM_LINE, 5, 0, 4, 1, 10, 0, line, "rows: one short, refused 10");
     rows_give(CTSIM_LINE, 5, 0, 0, 1, 10, 0, line, "rows: empty, refused 10");
-    rows_give(CTSIM_LINE, 5, 0, 36, 0, 13, 0, line, "rows: no place for nodes, refused 13");
-    rows_give(7, 33, 1, 0, 0, 13, 0, line, "rows: 13 comes first");
+    rows_give(CTSIM_LINE, 5, 0, 36, 0, CTSIM_SHORT, 0, line, "rows: no place for nodes, 100");
+    rows_give(7, 33, 1, 0, 0, CTSIM_SHORT, 0, line, "rows: 100 comes first");
 }
 
 /* The diameter into a slice of this length. */
@@ -133,8 +133,8 @@ static void test_diameter(void)
     diameter_gives(own, 2, 2, 1, 4, 0, "diameter: own bit, refused 4");
     diameter_gives(one_way, 2, 2, 1, 4, 0, "diameter: one way, refused 4");
     diameter_gives(beyond, 2, 2, 1, 4, 0, "diameter: no such node, refused 4");
-    diameter_gives(line, 5, 5, 0, 13, 0, "diameter: empty, refused 13");
-    diameter_gives(line, 0, 0, 0, 13, 0, "diameter: 13 comes first");
+    diameter_gives(line, 5, 5, 0, CTSIM_SHORT, 0, "diameter: empty, 100");
+    diameter_gives(line, 0, 0, 0, CTSIM_SHORT, 0, "diameter: 100 comes first");
 }
 
 /* The ratio into a slice of this length. */
@@ -156,11 +156,11 @@ static void test_ratio(void)
     ratio_gives(1, 3, 3, 0, 1.0 / 3.0, "ratio: long");
     ratio_gives(0, 5, 1, 0, 0.0, "ratio: of nothing");
     ratio_gives(most, most, 1, 0, 1.0, "ratio: 2^53");
-    ratio_gives(5, 0, 1, CTSIM_NO_RATIO, 0, "ratio: none, 14");
+    ratio_gives(5, 0, 1, CTSIM_NO_RATIO, 0, "ratio: none, 101");
     ratio_gives(most + 1, 0, 1, 11, 0, "ratio: refused 11");
     ratio_gives(1, most + 1, 1, 11, 0, "ratio: refused 11");
-    ratio_gives(1, 3, 0, 13, 0, "ratio: empty, refused 13");
-    ratio_gives(most + 1, 0, 0, 13, 0, "ratio: 13 comes first");
+    ratio_gives(1, 3, 0, CTSIM_SHORT, 0, "ratio: empty, 100");
+    ratio_gives(most + 1, 0, 0, CTSIM_SHORT, 0, "ratio: 100 comes first");
 }
 
 /* A run of a topology, or, where there are rows, of those; and how many places each slice has. */
@@ -228,8 +228,8 @@ static void test_questions(struct run good)
 {
     struct run r;
 
-    r = good; r.summary_length = 15; refused(r, 13, "run: summary one short, refused 13");
-    r = good; r.summary_length = 0; r.repeats = 0; refused(r, 13, "run: 13 comes first");
+    r = good; r.summary_length = 15; refused(r, CTSIM_SHORT, "run: summary one short, 100");
+    r = good; r.summary_length = 0; r.repeats = 0; refused(r, CTSIM_SHORT, "run: 100 comes first");
     r = good; r.repeats = 0; refused(r, 5, "run: refused 5");
     r = good; r.repeats = 65; refused(r, 5, "run: refused 5");
     r = good; r.given = 1; r.round_slots = 4097; refused(r, 6, "run: refused 6");

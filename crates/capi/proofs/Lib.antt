@@ -1,5 +1,5 @@
 -- The laws that several proofs of the crate use.
---     Filings   an entry's answer beside its definition
+--     Returns   an entry's answer beside its definition
 --     Numbers   a refusal's number is 1 to 11
-pub mod Filings
+pub mod Returns
 pub mod Numbers

@@ -1,4 +1,5 @@
--- The number of a refusal is 1 to 11. So a result of 0 says that the entry is done, and 13 and 14 mean what the entries for C say.
+-- The number of a refusal is above 0 and below 100. So a result of 0 says that the entry is done, and 100 and above mean what the
+-- entries for C say.
 -- Assumes nothing.
 use Prim.Native.Nat.{ℕ}
 use mathlib.Core.Path.{_≡_, refl, subst}
@@ -8,34 +9,34 @@ use mathlib.Core.Option.{Option, none, some}
 use native.Mathlib.Omega.{arith}
 use lib.Dec.{eqb, leb}
 use lib.ListN.{length}
-use Rattle.network.specs.Questions.{within, firstNo, nodesOf}
-use Rattle.network.specs.Topology.{topologyOf, answered, builtRows, rowsRefusal as topologyRowsRefusal}
+use Rattle.network.specs.Questions.{within, firstNo, nodesOf, rowsQuestions, topologyQuestions}
+use Rattle.network.specs.Topology.{topologyOf, answered, builtRows, builderRefusal}
 use Rattle.network.specs.Distance.{measured, measuredAs}
 use Rattle.network.specs.declared.topology.Built.{Built}
 use Rattle.network.specs.declared.distance.Measured.{Measured}
 use Rattle.network.proofs.Sets.{and-both}
-use Rattle.sim.specs.declared.config.Config.{Config}
-use Rattle.sim.specs.declared.config.Answer.{Answer}
-use Rattle.sim.specs.declared.metrics.Ratio.{Ratio}
-use Rattle.sim.specs.Questions.{runQuestions, rowsQuestions, topologyQuestions, rowsRefusal, topologyRefusal}
-use Rattle.sim.specs.Run.{Given}
-use Rattle.sim.specs.Entries.{outcomeOf, ranWith, runOfRows, runOfTopology}
-use Rattle.sim.specs.Ratio.{ratioOf, question11, quotient}
+use Rattle.config.specs.declared.Config.{Config}
+use Rattle.rules.specs.declared.answer.Answer.{Answer}
+use Rattle.metrics.specs.declared.ratios.Ratio.{Ratio}
+use Rattle.rules.specs.Questions.{runQuestions, rowsRefusal, topologyRefusal}
+use Rattle.rules.specs.Run.{Given}
+use Rattle.rules.specs.Entries.{outcomeOf, ranWith, runOfRows, runOfTopology}
+use Rattle.metrics.specs.Ratio.{ratioOf, question11, quotient}
 
--- the questions' numbers are 1 to 11
+-- the questions' numbers are above 0 and below 100
 abbrev numbered : List (Bool × ℕ) → Bool
 numbered [] = true
-numbered (q ∷ qs) = within 1 11 (q .1) && numbered qs
+numbered (q ∷ qs) = within 1 99 (q .1) && numbered qs
 
-first-numbered : (qs : List (Bool × ℕ)) (k : ℕ) → numbered qs ≡ true → firstNo qs ≡ some k → within 1 11 k ≡ true
+first-numbered : (qs : List (Bool × ℕ)) (k : ℕ) → numbered qs ≡ true → firstNo qs ≡ some k → within 1 99 k ≡ true
 first-numbered [] k h e = let z : _≡_ {A = ℕ} 0 1 = cc in absurd (omega arith)
 first-numbered (q ∷ qs) k h e =
-    let b = and-both (within 1 11 (q .1)) (numbered qs) h in
+    let b = and-both (within 1 99 (q .1)) (numbered qs) h in
     go (q .0) refl (b .0) (first-numbered qs k (b .1))
   where
-    go : (b : Bool) → q .0 ≡ b → within 1 11 (q .1) ≡ true → (firstNo qs ≡ some k → within 1 11 k ≡ true) → within 1 11 k ≡ true
+    go : (b : Bool) → q .0 ≡ b → within 1 99 (q .1) ≡ true → (firstNo qs ≡ some k → within 1 99 k ≡ true) → within 1 99 k ≡ true
     go true p one rest = rest (rw p at e)
-    go false p one rest = let f : some (q .1) ≡ some k = rw p at e in let g : q .1 ≡ k = cc in subst (λ (x : ℕ). within 1 11 x ≡ true) g one
+    go false p one rest = let f : some (q .1) ≡ some k = rw p at e in let g : q .1 ≡ k = cc in subst (λ (x : ℕ). within 1 99 x ≡ true) g one
 
 -- an outcome that refuses tells the number of its question
 outcome-numbered : (o : Option ℕ) (g : Given) (logs records snapshots : List ℕ) (k : ℕ) → outcomeOf o g logs records snapshots .answer ≡ Answer.Refused k → o ≡ some k
@@ -44,22 +45,22 @@ outcome-numbered none g logs records snapshots k e = let z : _≡_ {A = ℕ} 0 1
 outcome-numbered (some j) g logs records snapshots k e = cc
 
 module _ (c : Config) (logs records snapshots : List ℕ) (k : ℕ) where
-  pub topology-numbered : (topology first second : ℕ) → runOfTopology topology first second c logs records snapshots .answer ≡ Answer.Refused k → within 1 11 k ≡ true
+  pub topology-numbered : (topology first second : ℕ) → runOfTopology topology first second c logs records snapshots .answer ≡ Answer.Refused k → within 1 99 k ≡ true
   unfolding runOfTopology topologyRefusal
   topology-numbered topology first second e = first-numbered (topologyQuestions topology first second ++ runQuestions c (length logs) (length records)) k refl (outcome-numbered _ _ logs records snapshots k e)
 
-  pub run-numbered : (rows : List ℕ) (n : ℕ) → runOfRows rows n c logs records snapshots .answer ≡ Answer.Refused k → within 1 11 k ≡ true
+  pub run-numbered : (rows : List ℕ) (n : ℕ) → runOfRows rows n c logs records snapshots .answer ≡ Answer.Refused k → within 1 99 k ≡ true
   unfolding runOfRows rowsRefusal
   run-numbered rows n e = first-numbered (rowsQuestions rows n ++ runQuestions c (length logs) (length records)) k refl (outcome-numbered _ _ logs records snapshots k e)
 
-pub rows-numbered : (topology first second : ℕ) (out : List ℕ) (k : ℕ) → builtRows topology first second out .0 ≡ Built.Refused k → within 1 11 k ≡ true
-rows-numbered topology first second out k e = first-numbered (topologyQuestions topology first second ++ (leb (nodesOf topology first second) (length out), 10) ∷ []) k refl (go (topologyRowsRefusal topology first second (length out)) e)
+pub rows-numbered : (topology first second : ℕ) (out : List ℕ) (k : ℕ) → builtRows topology first second out .0 ≡ Built.Refused k → within 1 99 k ≡ true
+rows-numbered topology first second out k e = first-numbered (topologyQuestions topology first second ++ (leb (nodesOf topology first second) (length out), 10) ∷ []) k refl (go (builderRefusal topology first second (length out)) e)
   where
     go : (o : Option ℕ) → answered (topologyOf topology second) (nodesOf topology first second) out o .0 ≡ Built.Refused k → o ≡ some k
     go none p = let z : _≡_ {A = ℕ} 0 1 = cc in absurd (omega arith)
     go (some j) p = cc
 
-pub diameter-numbered : (rows : List ℕ) (n k : ℕ) → measured rows n ≡ Measured.Refused k → within 1 11 k ≡ true
+pub diameter-numbered : (rows : List ℕ) (n k : ℕ) → measured rows n ≡ Measured.Refused k → within 1 99 k ≡ true
 unfolding measured
 diameter-numbered rows n k e = first-numbered (rowsQuestions rows n) k refl (go _ _ e)
   where
@@ -67,11 +68,11 @@ diameter-numbered rows n k e = first-numbered (rowsQuestions rows n) k refl (go 
     go d none p = let z : _≡_ {A = ℕ} 0 1 = cc in absurd (omega arith)
     go d (some j) p = cc
 
-pub ratio-numbered : (part whole k : ℕ) → ratioOf part whole ≡ Ratio.Refused k → within 1 11 k ≡ true
+pub ratio-numbered : (part whole k : ℕ) → ratioOf part whole ≡ Ratio.Refused k → within 1 99 k ≡ true
 unfolding ratioOf
 ratio-numbered part whole k e = go (question11 part whole) (eqb whole 0) e
   where
-    go : (a b : Bool) → cond a (cond b Ratio.None (Ratio.Of (quotient part whole))) (Ratio.Refused 11) ≡ Ratio.Refused k → within 1 11 k ≡ true
+    go : (a b : Bool) → cond a (cond b Ratio.None (Ratio.Of (quotient part whole))) (Ratio.Refused 11) ≡ Ratio.Refused k → within 1 99 k ≡ true
     go true true p = let z : _≡_ {A = ℕ} 0 1 = cc in absurd (omega arith)
     go true false p = let z : _≡_ {A = ℕ} 0 1 = cc in absurd (omega arith)
-    go false b p = let g : _≡_ {A = ℕ} 11 k = cc in subst (λ (x : ℕ). within 1 11 x ≡ true) g refl
+    go false b p = let g : _≡_ {A = ℕ} 11 k = cc in subst (λ (x : ℕ). within 1 99 x ≡ true) g refl

@@ -1,9 +1,12 @@
 // The entries for programs in C. Each takes numbers and slices alone, where a slice is a pointer and a length in C, and
 // returns 0 or the number of the refusal, which leaves every slice as it was. `include/ctsim.h` declares them.
-mod filing;
+mod convert;
 
-use filing::config_of;
-use filing::file_answer;
+use convert::SUMMARY_SIZE;
+use convert::config_of;
+use convert::write_answer;
+use metrics::ratio::ratio;
+use metrics::ratios::Ratio;
 use network::distance::Measured;
 use network::distance::diameter;
 use network::topology::Built;
@@ -11,8 +14,6 @@ use network::topology::rows;
 use random::draws::draws;
 use sim::entries::run_rows;
 use sim::entries::run_topology;
-use sim::metrics::Ratio;
-use sim::ratio::ratio;
 ghost use Prim.Native.Nat.{ℕ};
 ghost use mathlib.Core.Path.{_≡_};
 ghost use mathlib.Core.List.{List};
@@ -20,13 +21,13 @@ ghost use lib.Ieee.{Float};
 ghost use lib.ListN.{length};
 ghost use Rattle.random.specs.Draws.{draw};
 ghost use Rattle.random.specs.Table.{tabulate};
-ghost use Rattle.capi.specs.Capi.{filedRows, filedDiameter, filedRatio, configFrom, filed, filedTopology, filedRun};
+ghost use Rattle.capi.specs.Capi.{returnedRows, returnedDiameter, returnedRatio, configFrom, returned, returnedTopology, returnedRun};
 
-// Refusal 13, which only these entries have: a slice for results is too short.
-const TOO_SHORT: u64 = 13;
+// What only these entries return: a slice for results is too short.
+const SHORT: u64 = 100;
 
 // No refusal: the divisor is 0, and there is no ratio.
-const NO_RATIO: u64 = 14;
+const NO_RATIO: u64 = 101;
 
 // Fills a slice with the draws of a seed, from draw 0 on. Never refused.
 #[no_mangle]
@@ -46,10 +47,13 @@ pub extern "C" fn ctsim_rows(
     out: &mut [u32],
     nodes: &mut [u64],
 ) -> u64
-    ensures { λ r. ⌜ _≡_ {A = ℕ × List ℕ × List ℕ} (r, now (out .exit), now (nodes .exit)) (filedRows topology first second (now (out .entry)) (now (nodes .entry))) ⌝ }
+    ensures { λ r. ⌜
+        _≡_ {A = ℕ × List ℕ × List ℕ} (r, now (out .exit), now (nodes .exit))
+        (returnedRows topology first second (now (out .entry)) (now (nodes .entry)))
+        ⌝ }
 {
     if nodes.len() < 1 {
-        return TOO_SHORT;
+        return SHORT;
     }
     let built = rows(topology, first, second, out);
     match built {
@@ -64,10 +68,10 @@ pub extern "C" fn ctsim_rows(
 // The diameter of n nodes with these rows into the first place of `links`.
 #[no_mangle]
 pub extern "C" fn ctsim_diameter(rows: &[u32], n: u64, links: &mut [u64]) -> u64
-    ensures { λ r. ⌜ _≡_ {A = ℕ × List ℕ} (r, now (links .exit)) (filedDiameter (now (rows .entry)) n (now (links .entry))) ⌝ }
+    ensures { λ r. ⌜ _≡_ {A = ℕ × List ℕ} (r, now (links .exit)) (returnedDiameter (now (rows .entry)) n (now (links .entry))) ⌝ }
 {
     if links.len() < 1 {
-        return TOO_SHORT;
+        return SHORT;
     }
     let measured = diameter(rows, n);
     match measured {
@@ -82,10 +86,10 @@ pub extern "C" fn ctsim_diameter(rows: &[u32], n: u64, links: &mut [u64]) -> u64
 // The ratio of two counts into the first place of `out`.
 #[no_mangle]
 pub extern "C" fn ctsim_ratio(part: u64, whole: u64, out: &mut [f64]) -> u64
-    ensures { λ r. ⌜ _≡_ {A = ℕ × List Float} (r, now (out .exit)) (filedRatio part whole (now (out .entry))) ⌝ }
+    ensures { λ r. ⌜ _≡_ {A = ℕ × List Float} (r, now (out .exit)) (returnedRatio part whole (now (out .entry))) ⌝ }
 {
     if out.len() < 1 {
-        return TOO_SHORT;
+        return SHORT;
     }
     let answer = ratio(part, whole);
     match answer {
@@ -117,10 +121,14 @@ pub extern "C" fn ctsim_run_topology(
     records: &mut [u64],
     snapshots: &mut [u64],
 ) -> u64
-    ensures { λ r. ⌜ filed r (now (summary .exit)) (now (logs .exit)) (now (records .exit)) (now (snapshots .exit)) ≡ filedTopology topology first second (configFrom repeats given «round_slots» loss seed proposals interval limit) (now (summary .entry)) (now (logs .entry)) (now (records .entry)) (now (snapshots .entry)) ⌝ }
+    ensures { λ r. ⌜
+        returned r (now (summary .exit)) (now (logs .exit)) (now (records .exit)) (now (snapshots .exit))
+        ≡ returnedTopology topology first second (configFrom repeats given «round_slots» loss seed proposals interval limit)
+        (now (summary .entry)) (now (logs .entry)) (now (records .entry)) (now (snapshots .entry))
+        ⌝ }
 {
-    if summary.len() < 16 {
-        return TOO_SHORT;
+    if summary.len() < SUMMARY_SIZE {
+        return SHORT;
     }
     let config = config_of(
         repeats,
@@ -133,7 +141,7 @@ pub extern "C" fn ctsim_run_topology(
         limit,
     );
     let answer = run_topology(topology, first, second, config, logs, records, snapshots);
-    file_answer(answer, summary)
+    write_answer(answer, summary)
 }
 
 // A run of n nodes with these rows.
@@ -154,10 +162,14 @@ pub extern "C" fn ctsim_run_rows(
     records: &mut [u64],
     snapshots: &mut [u64],
 ) -> u64
-    ensures { λ r. ⌜ filed r (now (summary .exit)) (now (logs .exit)) (now (records .exit)) (now (snapshots .exit)) ≡ filedRun (now (rows .entry)) n (configFrom repeats given «round_slots» loss seed proposals interval limit) (now (summary .entry)) (now (logs .entry)) (now (records .entry)) (now (snapshots .entry)) ⌝ }
+    ensures { λ r. ⌜
+        returned r (now (summary .exit)) (now (logs .exit)) (now (records .exit)) (now (snapshots .exit))
+        ≡ returnedRun (now (rows .entry)) n (configFrom repeats given «round_slots» loss seed proposals interval limit)
+        (now (summary .entry)) (now (logs .entry)) (now (records .entry)) (now (snapshots .entry))
+        ⌝ }
 {
-    if summary.len() < 16 {
-        return TOO_SHORT;
+    if summary.len() < SUMMARY_SIZE {
+        return SHORT;
     }
     let config = config_of(
         repeats,
@@ -170,5 +182,5 @@ pub extern "C" fn ctsim_run_rows(
         limit,
     );
     let answer = run_rows(rows, n, config, logs, records, snapshots);
-    file_answer(answer, summary)
+    write_answer(answer, summary)
 }

@@ -53,6 +53,6 @@ fn main() {
     let mut input = [0u8; INPUT];
     let n = read_input(&mut input);
     let mut out = [0u8; OUTPUT];
-    let size = sim::program::answer(&input[..n], &mut out);
+    let size = program::answer(&input[..n], &mut out);
     io::write_all(STDOUT_FILENO, &out[..size]);
 }

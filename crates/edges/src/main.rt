@@ -7,8 +7,8 @@ mod runs;
 use marks::put;
 use marks::put_end;
 use marks::put_number;
-use sim::metrics::Ratio;
-use sim::ratio::ratio;
+use metrics::ratio::ratio;
+use metrics::ratios::Ratio;
 
 // Whether a ratio is the f64 that is expected.
 fn show_ratio(name: &[u8], part: u64, whole: u64, expected: f64) {
@@ -64,7 +64,7 @@ fn refused_ratios() {
 // The program's answer to a line.
 fn show_line(name: &[u8], line: &[u8]) {
     let mut out = [0u8; 166000];
-    let n = sim::program::answer(line, &mut out);
+    let n = program::answer(line, &mut out);
     put(name);
     put_end();
     put(&out[..n]);

@@ -4,11 +4,11 @@ use super::marks::kept_numbers;
 use super::marks::put;
 use super::marks::put_end;
 use super::marks::put_number;
-use phy::ci::RoundSlots;
-use sim::config::Answer;
-use sim::config::Config;
+use config::Config;
+use config::RoundSlots;
+use metrics::summary::Summary;
+use rules::answer::Answer;
 use sim::entries::run_topology;
-use text::listing::Summary;
 
 // The configuration of the run that document 01 prints, but for the round slots.
 fn configured(slots: RoundSlots) -> Config {

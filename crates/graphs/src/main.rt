@@ -1,6 +1,7 @@
 // Builds every topology at every size, and prints a line for each that is accepted: topology, first and second number,
 // nodes, diameter, and a checksum of the rows. Then it counts the refusals, and shows those that a sweep does not meet.
 // The lines of the sweep in `stdout` were printed by the Rust source's own builders and diameter.
+use config::limits::MAX_NODES;
 use libc::STDOUT_FILENO;
 use network::distance::Measured;
 use network::topology::Built;
@@ -19,9 +20,9 @@ fn wide(x: u32) -> u64 {
 }
 
 // The rows as digits to base 31, modulo a prime below 2^32.
-fn checksum(rows: &[u32; 32], n: usize) -> u64 {
+fn checksum(rows: &[u32; MAX_NODES], n: usize) -> u64 {
     let mut sum: u64 = 7;
-    for i in 0..32 {
+    for i in 0..MAX_NODES {
         if i < n {
             sum = (sum * 31 + wide(rows[i]) % 4294967291) % 4294967291;
         }
@@ -41,7 +42,7 @@ fn put_diameter(rows: &[u32], n: u64) {
 
 // Prints the line of an accepted topology, and answers 0; the refusal's number for any other.
 fn show(topology: u64, first: u64, second: u64) -> u64 {
-    let mut rows = [0u32; 32];
+    let mut rows = [0u32; MAX_NODES];
     match network::topology::rows(topology, first, second, &mut rows) {
         Built::Nodes(n) => {
             put(b"graph");

@@ -1,13 +1,13 @@
 // Reads lines, readable ones and hostile ones, and prints what was read; then a listing and a
 // refusal, whole and into buffers that are too short.
+use config::RoundSlots;
 use libc::STDOUT_FILENO;
-use text::line::Line;
-use text::line::Read;
-use text::line::RoundSlots;
-use text::line::read_line;
-use text::listing::Summary;
-use text::listing::write_listing;
-use text::listing::write_refusal;
+use line::read::Line;
+use line::read::Read;
+use line::read::read_line;
+use listing::write::write_listing;
+use listing::write::write_refusal;
+use metrics::summary::Summary;
 
 fn print(text: &[u8]) {
     io::write_all(STDOUT_FILENO, text);

@@ -1,16 +1,46 @@
 -- The row check as facts, and what depends on the first n rows alone.
 -- Assumes nothing.
 use mathlib.Core.Path.{fun-ext, _≡_, refl, sym, ap, ap₂, _∙_}
-use mathlib.Core.Bool.{Bool, true, not, _&&_, _||_, Bool·beq}
+use mathlib.Core.Bool.{Bool, true, false, not, _&&_, _||_, Bool·beq}
+use mathlib.Core.Logic.{⊎-elim}
 use mathlib.Core.List.{List, _∷_}
 use Prim.Native.Nat.{ℕ, zero, suc, _^_, _≤_, _<_}
 use lib.Dec.{leb, ltb}
 use lib.ListN.{length, getD}
 use borrow.Author.Tests.{ltb-true, lt-ltb, leb-true, le-leb, not-true}
-use Rattle.network.specs.Graph.{has, linked, mirrored, rowRight, rowsRight, Checked}
+use Rattle.network.specs.Graph.{has, linked, all, mirrored, rowRight, rowsRight, backed, rowBacked, Checked}
 use Rattle.network.specs.Questions.{question4}
 use Rattle.network.specs.Distance.{spread, reaches, firstWith, distance, links, greatest, eccentricity, diameter, Joined}
-use Rattle.network.proofs.Sets.{and-both, all-elim, all-intro, all-cong, any-cong, setOf-cong, beq-same, beq-refl}
+use Rattle.network.proofs.Sets.{never, same, and-both, or-either, all-elim, all-intro, all-cong, any-cong, setOf-cong, beq-same, beq-refl}
+
+-- ---- each link is at its other end too: what the code asks of each row makes all rows right
+module _ (rows : List ℕ) (n : ℕ) where
+  pub rows-backed : all n (rowBacked rows n) ≡ rowsRight rows n
+  unfolding rowsRight rowRight rowBacked mirrored backed
+  rows-backed =
+      same
+      (λ e. all-intro n (rowRight rows n) (λ i l. ap₂ _&&_ (row e i l .0) (all-intro n (mirror i) (λ j m. beq-refl (linked rows i j) (linked rows j i) (same (other e i j l m) (other e j i m l))))))
+      (λ e.
+      all-intro n (rowBacked rows n)
+      (λ i l.
+      let r = and-both (ltb (getD rows i 0) (2 ^ n) && not (linked rows i i)) (mirrored rows n i) (all-elim n (rowRight rows n) e i l) in
+      ap₂ _&&_ (r .0) (all-intro n (back i) (λ j m. follows (linked rows i j) (beq-same (linked rows i j) (linked rows j i) (all-elim n (mirror i) (r .1) j m))))))
+    where
+      mirror : ℕ → ℕ → Bool
+      mirror i j = Bool·beq (linked rows i j) (linked rows j i)
+
+      back : ℕ → ℕ → Bool
+      back i j = not (linked rows i j) || linked rows j i
+
+      row : all n (rowBacked rows n) ≡ true → (i : ℕ) → i < n → ((ltb (getD rows i 0) (2 ^ n) && not (linked rows i i)) ≡ true) × (backed rows n i ≡ true)
+      row e i l = and-both (ltb (getD rows i 0) (2 ^ n) && not (linked rows i i)) (backed rows n i) (all-elim n (rowBacked rows n) e i l)
+
+      other : all n (rowBacked rows n) ≡ true → (i j : ℕ) → i < n → j < n → linked rows i j ≡ true → linked rows j i ≡ true
+      other e i j l m t = ⊎-elim (λ p. never t (not-true (linked rows i j) p)) (λ p. p) (or-either (not (linked rows i j)) (linked rows j i) (all-elim n (back i) (row e i l .1) j m))
+
+      follows : (a : Bool) {b : Bool} → a ≡ b → not a || b ≡ true
+      follows true e = sym e
+      follows false e = refl
 
 -- ---- question 4 is the facts of `Checked`
 pub right-checked : (rows : List ℕ) (n : ℕ) → n ≤ length rows → rowsRight rows n ≡ true → Checked rows n

@@ -5,15 +5,15 @@ use mathlib.Core.Bool.{true}
 use mathlib.Core.Logic.{_⊎_, inl, inr, ⊎-elim}
 use mathlib.Core.List.{List}
 use mathlib.Core.Option.{Option, none, some, Option·none-ne-some, Option·some-injective}
-use Prim.Native.Nat.{ℕ, zero, suc, _+_, _≤_, _<_, zero-le, suc-le-suc, max}
+use Prim.Native.Nat.{ℕ, zero, suc, _+_, _-_, _^_, _≤_, _<_, zero-le, suc-le-suc, max}
 use native.Mathlib.Nat.{not-suc-le-zero, le-of-suc-le-suc, le-refl, le-step, le-trans, le-antisymm, eq-or-lt-of-le, le-max-left, le-max-right, max-le, max-eq-left, max-eq-right, le-of-lt}
 use native.Mathlib.Numerals.{add-one}
 use lib.Dec.{leb}
 use borrow.Author.Tests.{leb-true, leb-false}
 use Rattle.network.specs.Graph.{has, linked, Checked, Path, here, on}
 use Rattle.network.specs.Distance.{reach, distance, IsDistance, links, greatest, eccentricity, diameter, Joined}
-use Rattle.network.proofs.Sets.{two, never, has-below}
-use Rattle.network.proofs.Reach.{grows-le, step-on, step-back, stays, has-start, start-only, fresh, below-nodes, distance-at, at-distance, distance-le}
+use Rattle.network.proofs.Sets.{two, never, has-below, has-full, set-ext}
+use Rattle.network.proofs.Reach.{reach-lt, grows-le, step-on, step-back, stays, has-start, start-only, fresh, below-nodes, distance-at, at-distance, distance-le}
 
 -- ---- the greatest of f 0 to f (n - 1)
 pub greatest-bound : (n : ℕ) (f : ℕ → ℕ) (i : ℕ) → i < n → f i ≤ greatest n f
@@ -229,3 +229,12 @@ module _ (rows : List ℕ) (n : ℕ) (ck : Checked rows n) where
       let q = leb-false (eccentricity rows n a) k p in
       never (ap (λ (x : ℕ). has x (r .0)) (sym (stays rows n a k (eccentricity rows n a) e (le-of-lt q))) ∙ s .0) (s .1 k q))
       (two (leb (eccentricity rows n a) k))
+
+  -- and where it has every node
+  pub eccentricity-full : (a k : ℕ) → a < n → reach rows n a k ≡ 2 ^ n - 1 → eccentricity rows n a ≤ k
+  eccentricity-full a k h e =
+      eccentricity-still a k h
+      (set-ext n (reach-lt rows n a h (suc k)) (reach-lt rows n a h k)
+      (λ j l.
+      let t = ap (λ (s : ℕ). has s j) e ∙ has-full n j l in
+      grows-le rows n a j l (le-step (le-refl k)) t ∙ sym t))

@@ -1,6 +1,7 @@
 -- The laws that several proofs and the crates above cite.
 pub mod Sets
 pub mod Lowest
+pub mod Masks
 pub mod Rows
 pub mod Within
 pub mod Spread
@@ -9,4 +10,5 @@ pub mod Distances
 pub mod Checks
 pub mod Topologies
 pub mod Grids
+pub mod Built
 pub mod Starred

@@ -7,10 +7,11 @@ use Prim.Native.Nat.{ℕ, zero, suc, _+_, _-_, _*_, _/_, _%_, _^_, _≤_, _<_, m
 use native.Mathlib.Nat.{pow-suc, mod-lt, div-one, eq-or-lt-of-le}
 use native.Mathlib.Numerals.{one-add}
 use native.Mathlib.Omega.{arith}
-use borrow.Author.Tests.{eqb-true, eqb-false, leb-true, leb-false, ne-eqb}
+use borrow.Author.Count.{below-more}
+use borrow.Author.Tests.{eqb-true, eqb-false, leb-true, leb-false, ltb-true, ltb-false, ne-eqb}
 use lib.Bits.{bitAnd, and-step, and-le-l, and-self}
 use lib.Count.{under, trailingZeros, leadingZeros, leading-top}
-use lib.Dec.{eqb, leb, eqb·zero-suc, eqb·suc-zero, eqb·suc-suc}
+use lib.Dec.{eqb, leb, ltb, eqb·zero-suc, eqb·suc-zero, eqb·suc-suc}
 use lib.Pow.{pow-pos, shr-shr, high}
 use Rattle.network.specs.Graph.{has}
 use Rattle.network.proofs.Sets.{two, never, has-out}
@@ -226,3 +227,12 @@ walked-next w {s} {rest} {m} h p x =
     gone j b (inr e) =
         ap (λ (y : Bool). cond y false (has rest j)) e
         ∙ lowest w rest h p .below j (omega (arith, b, eqb-false j (trailingZeros w rest) e))
+
+-- what holds of the nodes below m, of those that s does not have, and of t, holds of those below t + 1
+pub next-passed : {w s rest m t : ℕ} (P : ℕ → Type 0) → Next w s rest m t → ((j : ℕ) → j < m → P j) → ((j : ℕ) → has s j ≡ false → P j) → P t → (j : ℕ) → j < t + 1 → P j
+next-passed {m = m} {t = t} P x f g p =
+    below-more P t (λ j l. ⊎-elim (λ e. f j (ltb-true j m e)) (λ e. g j (x .none j (ltb-false j m e) l)) (two (ltb j m))) p
+
+-- and where none is left, of every node
+pub walked-each : {s m : ℕ} (P : ℕ → Type 0) → Walked s 0 m → ((j : ℕ) → j < m → P j) → ((j : ℕ) → has s j ≡ false → P j) → (j : ℕ) → P j
+walked-each {m = m} P x f g j = ⊎-elim (λ e. f j (ltb-true j m e)) (λ e. g j (walked-all x j (ltb-false j m e))) (two (ltb j m))

@@ -3,7 +3,7 @@
 use mathlib.Core.Path.{_≡_, refl, sym, ap, ap₂, _∙_, subst}
 use mathlib.Core.Bool.{Bool, true, false, cond, _&&_, _||_, Bool·beq, true≢false}
 use mathlib.Core.Logic.{_⊎_, inl, inr, ⊎-elim}
-use Prim.Native.Nat.{ℕ, zero, suc, _+_, _*_, _/_, _%_, _^_, _≤_, _<_, zero-le, suc-le-suc}
+use Prim.Native.Nat.{ℕ, zero, suc, _+_, _-_, _*_, _/_, _%_, _^_, _≤_, _<_, zero-le, suc-le-suc}
 use native.Mathlib.Nat.{not-suc-le-zero, le-of-suc-le-suc, eq-or-lt-of-le, le-refl, le-of-eq, le-step, le-of-lt, lt-irrefl, lt-of-lt-of-le, div-eq-of-lt, mod-lt, pow-suc, add-zero, zero-add, add-comm, zero-mul, one-mul, le-dest, mod-eq-of-lt, div-lt-iff-lt-mul, mul-comm}
 use native.Mathlib.Numerals.{add-one}
 use native.Mathlib.Omega.{arith}
@@ -190,6 +190,15 @@ setOf-has (suc n) s h =
 
 pub set-ext : (n : ℕ) {s t : ℕ} → s < 2 ^ n → t < 2 ^ n → ((j : ℕ) → j < n → has s j ≡ has t j) → s ≡ t
 set-ext n {s} {t} hs ht e = sym (setOf-has n s hs) ∙ setOf-cong n e ∙ setOf-has n t ht
+
+-- all nodes below n
+pub setOf-all : (n : ℕ) → setOf n (λ j. true) ≡ 2 ^ n - 1
+unfolding setOf
+setOf-all zero = refl
+setOf-all (suc n) = omega (arith, setOf-all n, pow-suc 2 n, pow-pos n)
+
+pub has-full : (n j : ℕ) → j < n → has (2 ^ n - 1) j ≡ true
+has-full n j h = ap (λ (s : ℕ). has s j) (sym (setOf-all n)) ∙ has-setOf n (λ j. true) j h
 
 -- the set of a alone
 none-yet : (m a : ℕ) → m ≤ a → setOf m (λ b. eqb b a) ≡ 0

@@ -25,8 +25,8 @@ any-stop f {m} {n} l =
     n l
 
 -- a link joins node j to a node of s below m
-unfoldable pub beside : List ℕ → ℕ → ℕ → ℕ → Bool
-beside rows s m j = any m (λ i. has s i && linked rows i j)
+unfoldable pub touches : List ℕ → ℕ → ℕ → ℕ → Bool
+touches rows s m j = any m (λ i. has s i && linked rows i j)
 
 -- node j is in s, or a link joins it to a node of s below i
 unfoldable pub near : List ℕ → ℕ → ℕ → ℕ → Bool
@@ -34,21 +34,21 @@ near rows s i j = has s j || any i (λ k. has s k && linked rows k j)
 
 module _ (rows : List ℕ) (s : ℕ) where
   -- no node of s lies between: the rest of the walk finds nothing
-  pub beside-stop : {m n : ℕ} (j : ℕ) → m ≤ n → ((i : ℕ) → m ≤ i → i < n → has s i ≡ false) → beside rows s m j ≡ beside rows s n j
-  unfolding beside
-  beside-stop j l h = any-stop (λ i. has s i && linked rows i j) l (λ i a b. ap (λ (x : Bool). x && linked rows i j) (h i a b))
+  pub touches-stop : {m n : ℕ} (j : ℕ) → m ≤ n → ((i : ℕ) → m ≤ i → i < n → has s i ≡ false) → touches rows s m j ≡ touches rows s n j
+  unfolding touches
+  touches-stop j l h = any-stop (λ i. has s i && linked rows i j) l (λ i a b. ap (λ (x : Bool). x && linked rows i j) (h i a b))
 
   -- the row of the next node is gathered by a bitwise or
-  pub beside-or : (found : ℕ) {m t : ℕ} → ((j : ℕ) → has found j ≡ beside rows s m j) → m ≤ t → ((i : ℕ) → m ≤ i → i < t → has s i ≡ false) → has s t ≡ true
-      → (j : ℕ) → has (bitOr found (getD rows t 0)) j ≡ beside rows s (t + 1) j
-  unfolding beside any linked
-  beside-or found {m} {t} f l h e j =
+  pub touches-or : (found : ℕ) {m t : ℕ} → ((j : ℕ) → has found j ≡ touches rows s m j) → m ≤ t → ((i : ℕ) → m ≤ i → i < t → has s i ≡ false) → has s t ≡ true
+      → (j : ℕ) → has (bitOr found (getD rows t 0)) j ≡ touches rows s (t + 1) j
+  unfolding touches any linked
+  touches-or found {m} {t} f l h e j =
       has-or found (getD rows t 0) j
-      ∙ ap₂ _||_ (f j ∙ beside-stop j l h) (ap (λ (x : Bool). x && linked rows t j) (sym e))
-      ∙ ap (λ (k : ℕ). beside rows s k j) (sym (add-one t))
+      ∙ ap₂ _||_ (f j ∙ touches-stop j l h) (ap (λ (x : Bool). x && linked rows t j) (sym e))
+      ∙ ap (λ (k : ℕ). touches rows s k j) (sym (add-one t))
 
-  pub beside-is : (n found : ℕ) → found < 2 ^ n → ((j : ℕ) → has found j ≡ beside rows s n j) → found ≡ setOf n (beside rows s n)
-  beside-is n found l h = set-ext n l (setOf-lt n (beside rows s n)) (λ j lj. h j ∙ sym (has-setOf n (beside rows s n) j lj))
+  pub touches-is : (n found : ℕ) → found < 2 ^ n → ((j : ℕ) → has found j ≡ touches rows s n j) → found ≡ setOf n (touches rows s n)
+  touches-is n found l h = set-ext n l (setOf-lt n (touches rows s n)) (λ j lj. h j ∙ sym (has-setOf n (touches rows s n) j lj))
 
   pub has-spread : (n j : ℕ) → j < n → has (spread rows n s) j ≡ near rows s n j
   unfolding spread near
@@ -77,16 +77,16 @@ pub record Edge (rows : List ℕ) (n reached edge : ℕ) : Type 0 where
   pub small : edge < 2 ^ n
   pub holds : (i j : ℕ) → i < n → j < n → linked rows i j ≡ true → has reached j ≡ false → has edge i ≡ has reached i
 
-module _ (rows : List ℕ) (n : ℕ) {reached edge found : ℕ} (small : reached < 2 ^ n) (x : Edge rows n reached edge) (is : found ≡ setOf n (beside rows edge n)) where
+module _ (rows : List ℕ) (n : ℕ) {reached edge found : ℕ} (small : reached < 2 ^ n) (x : Edge rows n reached edge) (is : found ≡ setOf n (touches rows edge n)) where
   -- so its neighbours are all that a step adds
   pub edge-spread : bitOr reached found ≡ spread rows n reached
-  unfolding beside near
+  unfolding touches near
   edge-spread =
-      set-ext n (or-lt n reached found small (rw is (setOf-lt n (beside rows edge n)))) (spread-lt rows reached n)
+      set-ext n (or-lt n reached found small (rw is (setOf-lt n (touches rows edge n)))) (spread-lt rows reached n)
       (λ j h.
       has-or reached found j
       ∙ or-same (has reached j)
-      (λ u. ap (λ (s : ℕ). has s j) is ∙ has-setOf n (beside rows edge n) j h ∙ any-cong n (λ i l. and-same (linked rows i j) (λ e. x .holds i j l h e u)))
+      (λ u. ap (λ (s : ℕ). has s j) is ∙ has-setOf n (touches rows edge n) j h ∙ any-cong n (λ i l. and-same (linked rows i j) (λ e. x .holds i j l h e u)))
       ∙ sym (has-spread rows reached n j h))
 
   -- and the nodes that it adds are the next edge

@@ -1,21 +1,19 @@
 -- What the inner functions of the builders promise and need, beside the rules themselves.
 -- Assumes nothing.
 use mathlib.Core.Bool.{Bool, _&&_, _||_}
-use mathlib.Core.List.{List, [], _∷_}
+use mathlib.Core.List.{[], _∷_}
 use Prim.Native.Nat.{ℕ, _+_, _%_, _≤_, _<_}
 use lib.Dec.{eqb, leb, ltb}
-use lib.ListN.{length}
-use Rattle.network.specs.Graph.{maxNodes}
+use Rattle.config.specs.Limits.{maxNodes, maxBranching}
 use Rattle.network.specs.Questions.{within, firstNo}
-use Rattle.network.specs.Topology.{answered}
+use Rattle.network.specs.Topology.{graphAs}
 use Rattle.network.specs.declared.topology.Topology.{Topology}
 use Rattle.network.specs.declared.topology.Topology.the-variants.{FullMesh, Line, Star, Grid, Ring, Tree}
-use Rattle.network.specs.declared.topology.Built.{Built}
+use Rattle.network.specs.declared.topology.BuiltGraph.{BuiltGraph}
 
--- What a builder answers after question 1, where the second number may be at most `most`.
-abbrev pub builtAs : Topology → ℕ → ℕ → ℕ → List ℕ → Built × List ℕ
-builtAs t n second most out =
-    answered t n out (firstNo ((within 2 maxNodes n, 2) ∷ (leb second most, 3) ∷ (leb n (length out), 10) ∷ []))
+-- What a builder gives after question 1, where the second number may be at most `most`.
+abbrev pub askedGraph : Topology → ℕ → ℕ → ℕ → BuiltGraph
+askedGraph t n second most = graphAs t n (firstNo ((within 2 maxNodes n, 2) ∷ (leb second most, 3) ∷ []))
 
 -- In rows of c, j is the node to the right of i or the one below it: how the source builds a grid.
 abbrev pub rightOrBelow : ℕ → ℕ → ℕ → Bool
@@ -40,4 +38,11 @@ branching (Tree b) = b
 
 -- What the builders need of a topology, so that no quotient is by 0 and no product too large.
 abbrev pub Sized : Topology → Type 0
-Sized t = ((0 < columns t) × (columns t ≤ maxNodes)) × (branching t ≤ maxNodes)
+Sized t = ((0 < columns t) × (columns t ≤ maxNodes)) × (branching t ≤ maxBranching)
+
+-- And before question 3 is asked.
+pub record Askable (t : Topology) (second most : ℕ) : Type 0 where
+  pub column : 0 < columns t
+  pub fits : columns t ≤ maxNodes
+  pub asked : branching t ≤ second
+  pub allowed : most ≤ maxBranching

@@ -5,8 +5,8 @@ use mathlib.Core.Bool.{cond, _&&_, _||_}
 use mathlib.Core.List.{List, [], _∷_}
 use mathlib.Core.Option.{Option, none, some, Option·map}
 use Prim.Native.Nat.{ℕ, zero, suc, _^_, _<_, max}
-use Rattle.network.specs.Graph.{maxNodes, has, setOf, any, linked, Path}
-use Rattle.network.specs.Questions.{within, firstNo, question4}
+use Rattle.network.specs.Graph.{has, setOf, any, linked, Path}
+use Rattle.network.specs.Questions.{firstNo, question4, rowsQuestions}
 use Rattle.network.specs.declared.distance.Measured.{Measured}
 use Rattle.network.specs.declared.distance.Measured.the-variants.{Links, Refused}
 
@@ -75,4 +75,4 @@ measuredAs d (some k) = Refused k
 -- Questions 2 and 4, then the diameter.
 unfoldable pub measured : List ℕ → ℕ → Measured
 unfolding question4 diameter
-measured rows n = measuredAs (diameter rows n) (firstNo ((within 2 maxNodes n, 2) ∷ (question4 rows n, 4) ∷ []))
+measured rows n = measuredAs (diameter rows n) (firstNo (rowsQuestions rows n))

@@ -6,10 +6,7 @@ use mathlib.Core.List.{List, _++_}
 use Prim.Native.Nat.{ℕ, zero, suc, _+_, _-_, _/_, _%_, _^_, _≤_, _<_}
 use lib.Dec.{eqb, ltb}
 use lib.ListN.{length, getD, take, replicate}
-
--- The most nodes that a graph has.
-abbrev pub maxNodes : ℕ
-maxNodes = 32
+use Rattle.config.specs.Limits.{maxNodes}
 
 -- Node j is in the set s.
 unfoldable pub has : ℕ → ℕ → Bool
@@ -62,6 +59,16 @@ rowRight rows n i = ltb (getD rows i 0) (2 ^ n) && not (linked rows i i) && mirr
 unfoldable pub rowsRight : List ℕ → ℕ → Bool
 unfolding rowRight all
 rowsRight rows n = all n (rowRight rows n)
+
+-- Node i is in the row of each node of its own row.
+unfoldable pub backed : List ℕ → ℕ → ℕ → Bool
+unfolding linked all
+backed rows n i = all n (λ j. not (linked rows i j) || linked rows j i)
+
+-- What the code asks of node i's row: of all rows together it is the same.
+unfoldable pub rowBacked : List ℕ → ℕ → ℕ → Bool
+unfolding linked backed
+rowBacked rows n i = ltb (getD rows i 0) (2 ^ n) && not (linked rows i i) && backed rows n i
 
 -- Question 4 as facts: what a law assumes of a graph of n nodes.
 pub record Checked (rows : List ℕ) (n : ℕ) : Type 0 where

@@ -5,7 +5,8 @@ use mathlib.Core.Option.{Option, none, some}
 use Prim.Native.Nat.{ℕ, _*_}
 use lib.Dec.{eqb, leb}
 use lib.ListN.{length}
-use Rattle.network.specs.Graph.{maxNodes, rowsRight}
+use Rattle.network.specs.Graph.{rowsRight}
+use Rattle.config.specs.Limits.{maxNodes, maxBranching}
 
 -- lo ≤ x ≤ hi
 abbrev pub within : ℕ → ℕ → ℕ → Bool
@@ -32,9 +33,17 @@ question2 topology first second =
 
 -- Question 3: is the second number 0 to 32 for a tree and 0 for 1, 2, 3, 5?
 abbrev pub question3 : ℕ → ℕ → Bool
-question3 topology second = eqb topology 4 || leb second (cond (eqb topology 6) maxNodes 0)
+question3 topology second = eqb topology 4 || leb second (cond (eqb topology 6) maxBranching 0)
 
 -- Question 4: one row for each node at least, and the first n of them right.
 unfoldable pub question4 : List ℕ → ℕ → Bool
 unfolding rowsRight
 question4 rows n = leb n (length rows) && rowsRight rows n
+
+-- The questions put to a topology by its number, and to rows.
+abbrev pub topologyQuestions : ℕ → ℕ → ℕ → List (Bool × ℕ)
+topologyQuestions topology first second =
+    (question1 topology, 1) ∷ (question2 topology first second, 2) ∷ (question3 topology second, 3) ∷ []
+
+abbrev pub rowsQuestions : List ℕ → ℕ → List (Bool × ℕ)
+rowsQuestions rows n = (within 2 maxNodes n, 2) ∷ (question4 rows n, 4) ∷ []

@@ -4,14 +4,16 @@ use mathlib.Core.List.{List, [], _∷_, _++_}
 use mathlib.Core.Option.{Option, none, some}
 use Prim.Native.Nat.{ℕ, _+_, _*_, _/_, _%_}
 use lib.Dec.{eqb, leb, ltb}
-use lib.ListN.{length, drop}
+use lib.ListN.{length, drop, replicate}
+use Rattle.config.specs.Limits.{maxNodes}
 use Rattle.random.specs.Table.{tabulate}
-use Rattle.network.specs.Graph.{setOf}
-use Rattle.network.specs.Questions.{within, firstNo, nodesOf, question1, question2, question3}
+use Rattle.network.specs.Graph.{setOf, widened}
+use Rattle.network.specs.Questions.{within, firstNo, nodesOf, topologyQuestions}
 use Rattle.network.specs.declared.topology.Topology.{Topology}
 use Rattle.network.specs.declared.topology.Topology.the-variants.{FullMesh, Line, Star, Grid, Ring, Tree}
 use Rattle.network.specs.declared.topology.Built.{Built}
 use Rattle.network.specs.declared.topology.Built.the-variants.{Nodes, Refused}
+use Rattle.network.specs.declared.topology.BuiltGraph.{BuiltGraph}
 
 -- Two numbers that differ by 1.
 abbrev pub beside : ℕ → ℕ → Bool
@@ -54,14 +56,9 @@ topologyOf topology second =
     (cond (eqb topology 4) (Grid second) (cond (eqb topology 5) Ring (Tree second)))))
 
 -- Questions 1, 2, 3 and 10, for a slice of the given length.
-abbrev pub rowsRefusal : ℕ → ℕ → ℕ → ℕ → Option ℕ
-rowsRefusal topology first second len =
-    firstNo
-    ((question1 topology, 1)
-    ∷ (question2 topology first second, 2)
-    ∷ (question3 topology second, 3)
-    ∷ (leb (nodesOf topology first second) len, 10)
-    ∷ [])
+abbrev pub builderRefusal : ℕ → ℕ → ℕ → ℕ → Option ℕ
+builderRefusal topology first second len =
+    firstNo (topologyQuestions topology first second ++ ((leb (nodesOf topology first second) len, 10) ∷ []))
 
 -- A slice whose first n places hold the topology's rows.
 unfoldable pub withRows : Topology → ℕ → List ℕ → List ℕ
@@ -77,4 +74,18 @@ answered t n out (some k) = (Refused k, out)
 abbrev pub builtRows : ℕ → ℕ → ℕ → List ℕ → Built × List ℕ
 builtRows topology first second out =
     answered (topologyOf topology second) (nodesOf topology first second) out
-    (rowsRefusal topology first second (length out))
+    (builderRefusal topology first second (length out))
+
+-- A refusal, with no link at all.
+abbrev pub refusedGraph : ℕ → BuiltGraph
+refusedGraph k = record { answer = Refused k; rows = replicate maxNodes 0 }
+
+-- The number of nodes and the rows as a run takes them, or the refusal, from its number or none.
+abbrev pub graphAs : Topology → ℕ → Option ℕ → BuiltGraph
+graphAs t n none = record { answer = Nodes n; rows = widened (topologyRows t n) n }
+graphAs t n (some k) = refusedGraph k
+
+-- What `build_graph` gives back.
+abbrev pub builtGraph : ℕ → ℕ → ℕ → BuiltGraph
+builtGraph topology first second =
+    graphAs (topologyOf topology second) (nodesOf topology first second) (firstNo (topologyQuestions topology first second))

@@ -2,12 +2,13 @@
 ghost use mathlib.Core.Path.{_≡_};
 ghost use mathlib.Core.Bool.{_&&_};
 ghost use Prim.Native.Nat.{_≤_, _<_, _^_};
-ghost use Rattle.network.specs.Graph.{maxNodes, has, setOf, any, linked, Checked};
+ghost use Rattle.network.specs.Graph.{has, setOf, any, linked, Checked};
+ghost use Rattle.config.specs.Limits.{maxNodes};
 ghost use Rattle.network.specs.Distance.{eccentricity, diameter, measured};
 use crate::graph;
-use crate::graph::MAX_NODES;
 use crate::questions::lies_in;
 use crate::units::NodeId;
+use config::limits::MAX_NODES;
 
 // What asking for a diameter answers: the number of links, or the number of the question that was answered "no".
 pub enum Measured {
@@ -30,8 +31,8 @@ fn neighbours(rows: &[u64; MAX_NODES], n: usize, edge: u64) -> u64
     found
 }
 
-// The greatest finite distance from a: the number of steps in which the set of nodes reached still grows, which is
-// below n. A step looks only at the nodes reached last: the rows of the others are in the set already.
+// The greatest finite distance from a: the number of steps in which the set of nodes reached still grows. A step looks
+// only at the nodes reached last: the rows of the others are in the set already.
 pub fn eccentricity(rows: &[u64; MAX_NODES], n: usize, a: NodeId) -> usize
     requires { ⌜ (n ≤ maxNodes) × (Checked (now rows) n × (a .0 < n)) ⌝ }
     ensures { λ r. ⌜ r ≡ eccentricity (now (rows .entry)) n (a .0) ⌝ }
@@ -40,7 +41,8 @@ pub fn eccentricity(rows: &[u64; MAX_NODES], n: usize, a: NodeId) -> usize
     let mut reached: u64 = 1 << start;
     let mut edge = reached;
     let mut k = 0;
-    while k + 1 < n {
+    let all = graph::full_set(n);
+    while reached != all {
         let next = reached | neighbours(rows, n, edge);
         if next == reached {
             return k;
@@ -52,7 +54,7 @@ pub fn eccentricity(rows: &[u64; MAX_NODES], n: usize, a: NodeId) -> usize
     k
 }
 
-// The greatest finite distance.
+// The greatest finite distance. No distance reaches n, so none is greater than n - 1.
 pub fn diameter_of(rows: &[u64; MAX_NODES], n: usize) -> usize
     requires { ⌜ (n ≤ maxNodes) × Checked (now rows) n ⌝ }
     ensures { λ r. ⌜ r ≡ diameter (now (rows .entry)) n ⌝ }
@@ -60,6 +62,9 @@ pub fn diameter_of(rows: &[u64; MAX_NODES], n: usize) -> usize
     let mut greatest = 0;
     for a in 0..n {
         let far = eccentricity(rows, n, NodeId(a));
+        if far + 1 == n {
+            return far;
+        }
         if greatest < far {
             greatest = far;
         }

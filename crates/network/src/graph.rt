@@ -1,12 +1,11 @@
 // Graphs as rows: a row is a node's set of neighbours, bit j for node j. Inside, sets are 64 bits wide.
 ghost use mathlib.Core.Path.{_≡_};
-ghost use Prim.Native.Nat.{_≤_, _<_};
-ghost use lib.ListN.{length};
-ghost use Rattle.network.specs.Graph.{maxNodes, has, mirrored, rowRight, rowsRight, widened};
+ghost use Prim.Native.Nat.{_-_, _^_, _≤_, _<_};
+ghost use lib.ListN.{length, getD};
+ghost use Rattle.network.specs.Graph.{has, backed, rowBacked, rowsRight, widened};
+ghost use Rattle.config.specs.Limits.{maxNodes};
 use crate::units::NodeId;
-
-// The most nodes of a graph.
-pub const MAX_NODES: usize = 32;
+use config::limits::MAX_NODES;
 
 // Whether node j is in the set.
 pub fn has(set: u64, j: NodeId) -> bool
@@ -15,6 +14,14 @@ pub fn has(set: u64, j: NodeId) -> bool
 {
     let at = j.0;
     (set >> at) % 2 == 1
+}
+
+// The set of the nodes below n: a word with n ones.
+pub fn full_set(n: usize) -> u64
+    requires { ⌜ n ≤ 64 ⌝ }
+    ensures { λ r. ⌜ r ≡ 2 ^ n - 1 ⌝ }
+{
+    if n < 64 { (1 << n) - 1 } else { u64::MAX }
 }
 
 // The first n rows as 64-bit sets; the other places are empty.
@@ -29,30 +36,35 @@ pub fn widen(rows: &[u32], n: usize) -> [u64; MAX_NODES]
     wide
 }
 
-// Whether each j below n is in i exactly when i is in j.
-fn mirrored(rows: &[u64; MAX_NODES], n: usize, i: NodeId) -> bool
-    requires { ⌜ (n ≤ maxNodes) × (i .0 < n) ⌝ }
-    ensures { λ r. ⌜ r ≡ mirrored (now (rows .entry)) n (i .0) ⌝ }
+// Whether node i is in the row of each node of its own row.
+fn backed(rows: &[u64; MAX_NODES], n: usize, i: NodeId) -> bool
+    requires { ⌜ (n ≤ maxNodes) × ((i .0 < n) × (getD (now rows) (i .0) 0 < 2 ^ n)) ⌝ }
+    ensures { λ r. ⌜ r ≡ backed (now (rows .entry)) n (i .0) ⌝ }
 {
     let at = i.0;
-    let set = rows[at];
-    for j in 0..n {
+    let mut rest = rows[at];
+    while rest != 0 {
+        let j = u64::trailing_zeros(rest) as usize;
         let other = rows[j];
-        if has(set, NodeId(j)) != has(other, i) {
+        if !has(other, i) {
             return false;
         }
+        rest = rest & (rest - 1);
     }
     true
 }
 
-// What question 4 asks of one row.
-fn row_right(rows: &[u64; MAX_NODES], n: usize, i: NodeId) -> bool
+// Question 4 of one row, where each link is looked for at its other end.
+fn row_backed(rows: &[u64; MAX_NODES], n: usize, i: NodeId) -> bool
     requires { ⌜ (n ≤ maxNodes) × (i .0 < n) ⌝ }
-    ensures { λ r. ⌜ r ≡ rowRight (now (rows .entry)) n (i .0) ⌝ }
+    ensures { λ r. ⌜ r ≡ rowBacked (now (rows .entry)) n (i .0) ⌝ }
 {
     let at = i.0;
     let set = rows[at];
-    (set < 1 << n) & !has(set, i) & mirrored(rows, n, i)
+    if full_set(n) < set {
+        return false;
+    }
+    !has(set, i) & backed(rows, n, i)
 }
 
 // Whether the first n rows have no bit at or above n, no own bit, and j in i exactly when i in j.
@@ -61,7 +73,7 @@ pub fn rows_right(rows: &[u64; MAX_NODES], n: usize) -> bool
     ensures { λ r. ⌜ r ≡ rowsRight (now (rows .entry)) n ⌝ }
 {
     for i in 0..n {
-        if !row_right(rows, n, NodeId(i)) {
+        if !row_backed(rows, n, NodeId(i)) {
             return false;
         }
     }

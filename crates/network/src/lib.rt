@@ -2,5 +2,6 @@
 pub mod distance;
 pub mod graph;
 pub mod questions;
+mod rule;
 pub mod topology;
 pub mod units;

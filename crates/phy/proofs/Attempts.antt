@@ -1,7 +1,7 @@
 -- Attempts in order. Assumes nothing.
 use Prim.Native.Nat.{ℕ, zero, suc, _+_, _^_, _≤_, _<_}
 use mathlib.Core.Path.{_≡_, refl, sym, ap, ap₂, _∙_}
-use mathlib.Core.Bool.{Bool, true, false, cond, _&&_}
+use mathlib.Core.Bool.{Bool, true, false, cond, _&&_, and-false}
 use mathlib.Core.List.{List, [], _∷_, _++_, append-nil}
 use mathlib.Core.Logic.{⊎-elim}
 use native.Mathlib.Nat.{eq-or-lt-of-le}
@@ -13,7 +13,6 @@ use lib.Bits.{bitAnd}
 use Rattle.network.specs.Graph.{has, linked}
 use Rattle.network.proofs.Sets.{has-out}
 use Rattle.phy.proofs.Masks.{has-and}
-use Rattle.random.specs.Reception.{heard}
 use Rattle.phy.specs.declared.slot.Tried.{Tried}
 use Rattle.phy.specs.Slot.{Tries, attempt, attemptAll, among, receivers}
 use Rattle.phy.specs.View.{triesOf, TriedOn}
@@ -25,29 +24,27 @@ attemptAll-append h t (x ∷ xs) ys = attemptAll-append h (attempt h t x) xs ys
 
 pub tried-none : (rate : Float) (t : Tried) (w : List ℕ) → TriedOn rate 0 [] t w t w
 unfolding attemptAll
-tried-none rate t w = record { size = refl; attempts = omega arith; successes = omega arith; tried = λ seed r. (refl, r) }
+tried-none rate t w = record { attempts = omega arith; successes = omega arith; tried = λ heard r. refl; source = λ heard r. r }
 
 -- first the receivers js, then ks
 pub tried-then : {rate : Float} {i k : ℕ} {js ks : List ℕ} {t u v : Tried} {w x y : List ℕ} → TriedOn rate i js t w u x → TriedOn rate k ks u x v y → TriedOn rate (i + k) (js ++ ks) t w v y
 tried-then {rate} {js = js} {ks = ks} {t = t} a b =
     record {
-      size = b .size ∙ a .size;
       attempts = omega (arith, a .attempts, b .attempts);
       successes = omega (arith, a .successes, b .successes);
-      tried = λ seed r.
-          let p = a .tried seed r in
-          let q = b .tried seed (p .1) in
-          (q .0 ∙ ap (λ (x : Tries). attemptAll (heard rate seed) x ks) (p .0) ∙ sym (attemptAll-append (heard rate seed) (triesOf t) js ks), q .1);
+      tried = λ heard r.
+          b .tried heard (a .source heard r) ∙ ap (λ (x : Tries). attemptAll heard x ks) (a .tried heard r) ∙ sym (attemptAll-append heard (triesOf t) js ks);
+      source = λ heard r. b .source heard (a .source heard r);
     }
 
 -- the same attempts under another name, or a looser bound
 pub tried-as : {rate : Float} {i k : ℕ} {js ks : List ℕ} {t u : Tried} {w x : List ℕ} → i ≤ k → js ≡ ks → TriedOn rate i js t w u x → TriedOn rate k ks t w u x
 tried-as {rate} {i} {k} {js} {ks} {t} {u} h e a =
     record {
-      size = a .size;
       attempts = omega (arith, a .attempts);
       successes = omega (arith, a .successes);
-      tried = λ seed r. let p = a .tried seed r in (p .0 ∙ ap (attemptAll (heard rate seed) (triesOf t)) e, p .1);
+      tried = λ heard r. a .tried heard r ∙ ap (attemptAll heard (triesOf t)) e;
+      source = a .source;
     }
 
 -- one number more
@@ -91,10 +88,6 @@ receivers-skip rows floods listens n m (suc t) l h =
     ∙ append-nil (receivers rows floods listens n t)
     ∙ receivers-skip rows floods listens n m t (omega (arith, b)) (λ i u v. h i u (omega (arith, v))))
     (eq-or-lt-of-le l)
-
-and-false : (b : Bool) → b && false ≡ false
-and-false true = refl
-and-false false = refl
 
 -- where nobody listens
 pub receivers-none : (rows : List ℕ) (floods listens : ℕ → Bool) (n m : ℕ) → ((j : ℕ) → listens j ≡ false) → receivers rows floods listens n m ≡ []

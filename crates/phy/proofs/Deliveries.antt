@@ -1,7 +1,7 @@
 -- The nodes that are not awake get the packet: what the code's sets are. Assumes nothing.
 use Prim.Native.Nat.{ℕ, zero, suc, _-_, _^_, _≤_, _<_}
 use mathlib.Core.Path.{_≡_, refl, sym, ap, ap₂, subst, _∙_}
-use mathlib.Core.Bool.{Bool, true, false, not, _&&_, _||_}
+use mathlib.Core.Bool.{Bool, true, false, not, _&&_, _||_, or-comm}
 use mathlib.Core.List.{List}
 use native.Mathlib.Nat.{pow-suc}
 use native.Mathlib.Omega.{arith}
@@ -9,6 +9,7 @@ use lib.Bits.{bitAnd, bitOr, and-le-l, or-lt}
 use lib.Count.{ones}
 use lib.Dec.{eqb}
 use lib.Pow.{pow-pos, pow-lt, pow-mono}
+use Rattle.config.specs.Limits.{maxNodes}
 use Rattle.network.specs.Graph.{has, setOf}
 use Rattle.network.proofs.Lowest.{has-minus}
 use Rattle.network.proofs.Sets.{has-or, has-one, has-setOf, has-out, setOf-lt}
@@ -21,7 +22,7 @@ unfolding setOf
 full zero = refl
 full (suc n) = omega (arith, full n, pow-suc 2 n, pow-pos n)
 
-module _ (n first : ℕ) (packet : List ℕ) (awake before : ℕ) (h : List ℕ) (few : n ≤ 32) (among : first < n) where
+module _ (n first : ℕ) (packet : List ℕ) (awake before : ℕ) (h : List ℕ) (few : n ≤ maxNodes) (among : first < n) where
   abbrev all : ℕ
   all = 2 ^ n - 1
 
@@ -32,7 +33,7 @@ module _ (n first : ℕ) (packet : List ℕ) (awake before : ℕ) (h : List ℕ)
   kept = bitAnd all before
 
   abbrev pub same : ℕ
-  same = setOf 32 (λ (k : ℕ). has (bitAnd kept awake) k && sameNumbers h packet k)
+  same = setOf maxNodes (λ (k : ℕ). has (bitAnd kept awake) k && sameNumbers h packet k)
 
   each : (j : ℕ) → j < n → has all j ≡ true
   each j p = ap (λ (s : ℕ). has s j) (sym (full n)) ∙ has-setOf n (λ (k : ℕ). true) j p
@@ -43,10 +44,10 @@ module _ (n first : ℕ) (packet : List ℕ) (awake before : ℕ) (h : List ℕ)
   kept-lt : kept < 2 ^ n
   kept-lt = omega (arith, pow-pos n, and-le-l all before)
 
-  pub asleep-few : asleep < 2 ^ 32
+  pub asleep-few : asleep < 2 ^ maxNodes
   asleep-few = omega (arith, asleep-lt, pow-mono few)
 
-  pub kept-few : bitAnd kept awake < 2 ^ 32
+  pub kept-few : bitAnd kept awake < 2 ^ maxNodes
   kept-few = omega (arith, kept-lt, pow-mono few, and-le-l kept awake)
 
   asleep-bit : (j : ℕ) → j < n → has asleep j ≡ not (has awake j)
@@ -57,13 +58,13 @@ module _ (n first : ℕ) (packet : List ℕ) (awake before : ℕ) (h : List ℕ)
 
   same-bit : (j : ℕ) → j < n → has same j ≡ (has before j && has awake j) && sameNumbers h packet j
   same-bit j p =
-      has-setOf 32 (λ (k : ℕ). has (bitAnd kept awake) k && sameNumbers h packet k) j (omega (arith, p, few))
+      has-setOf maxNodes (λ (k : ℕ). has (bitAnd kept awake) k && sameNumbers h packet k) j (omega (arith, p, few))
       ∙ ap (λ (b : Bool). b && sameNumbers h packet j) (has-and kept awake j ∙ ap (λ (b : Bool). b && has awake j) (kept-bit j p))
 
   same-lt : same < 2 ^ n
   same-lt =
       subst (λ (s : ℕ). s < 2 ^ n)
-      (sym (setOf-skip n 32 _ few (λ k u v. ap (λ (b : Bool). b && sameNumbers h packet k) (has-and kept awake k ∙ ap (λ (b : Bool). b && has awake k) (has-out kept-lt k u)))))
+      (sym (setOf-skip n maxNodes _ few (λ k u v. ap (λ (b : Bool). b && sameNumbers h packet k) (has-and kept awake k ∙ ap (λ (b : Bool). b && has awake k) (has-out kept-lt k u)))))
       (setOf-lt n _)
 
   covering : (j : ℕ) → j < n → has (bitOr asleep same) j ≡ not (has awake j) || (has before j && sameNumbers h packet j)
@@ -75,13 +76,7 @@ module _ (n first : ℕ) (packet : List ℕ) (awake before : ℕ) (h : List ℕ)
       go false b c = refl
 
   parting : (j : ℕ) → j < n → has (bitOr asleep (2 ^ first)) j ≡ eqb j first || not (has awake j)
-  parting j p = has-or asleep (2 ^ first) j ∙ ap₂ _||_ (asleep-bit j p) (has-one n first j among p) ∙ go (not (has awake j)) (eqb j first)
-    where
-      go : (a b : Bool) → a || b ≡ b || a
-      go true true = refl
-      go true false = refl
-      go false true = refl
-      go false false = refl
+  parting j p = has-or asleep (2 ^ first) j ∙ ap₂ _||_ (asleep-bit j p) (has-one n first j among p) ∙ or-comm (not (has awake j)) (eqb j first)
 
   pub delivers : {h' : List ℕ} → GaveAll asleep packet h h'
       → Delivers n first packet awake before h (record { part = bitOr asleep (2 ^ first); covered = ones (bitOr asleep same); holding = bitOr asleep kept }) h'

@@ -2,41 +2,42 @@
 -- Assumes nothing.
 use Prim.Native.Nat.{ℕ, suc, _+_, _-_, _*_, _/_, _%_, _≤_, _<_}
 use mathlib.Core.Path.{_≡_, sym, ap, subst, _∙_}
-use mathlib.Core.List.{List}
+use mathlib.Core.List.{List, [], _∷_, _++_}
 use mathlib.Core.Logic.{⊎-elim}
 use native.Mathlib.Nat.{eq-or-lt-of-le, div-eq-of-lt-le, div-eq-of-eq-mul-left, div-add-mod', zero-mul, mul-mod-left}
 use native.Mathlib.Omega.{arith}
+use lib.ListN.{length, length-append}
 use Rattle.phy.specs.declared.packet.Packet.{Packet}
-use Rattle.phy.specs.Slot.{Setup, Standing, Shots, store, takeOne, takeWhile, slotStep}
+use Rattle.phy.specs.Slot.{Setup, Standing, Shots, takeOne, takeWhile, slotStep}
 use Rattle.phy.specs.Round.{begun, withNodes, slots, round}
 use Rattle.phy.proofs.Counts.{along-slots}
 use Rattle.phy.proofs.Snapshots.{none-due, one-due, one-more}
 
 -- Before this slot the next snapshot is the first multiple of the interval that is not less than the slot.
 pub record Due (interval slot : ℕ) (x : Shots) : Type 0 where
-  pub multiple : x .next ≡ x .count * interval
+  pub multiple : x .next ≡ length (x .taken) * interval
   pub ahead : slot ≤ x .next
   pub near : x .next < slot + interval
 
 -- as a run begins
-pub due-none : (interval : ℕ) (x : Shots) → 1 ≤ interval → x .next ≡ 0 → x .count ≡ 0 → Due interval 0 x
+pub due-none : (interval : ℕ) (x : Shots) → 1 ≤ interval → x .next ≡ 0 → length (x .taken) ≡ 0 → Due interval 0 x
 due-none interval x pos e c = record { multiple = e ∙ sym (ap (λ (k : ℕ). k * interval) c ∙ zero-mul interval); ahead = omega arith; near = omega arith }
 
 module _ (interval slot : ℕ) (x : Shots) (pos : 1 ≤ interval) (due : Due interval slot x) where
   -- the snapshots so far: the slots divided by the interval, rounded up
-  pub due-count : x .count ≡ (slot + interval - 1) / interval
+  pub due-count : length (x .taken) ≡ (slot + interval - 1) / interval
   due-count = sym (div-eq-of-lt-le interval (omega (arith, due .multiple, due .near)) (omega (arith, due .multiple, due .ahead)))
 
   -- the slot is a multiple of the interval exactly when it is the next snapshot's
   next-multiple : x .next ≡ slot → slot % interval ≡ 0
-  next-multiple e = ap (λ (k : ℕ). k % interval) (sym e ∙ due .multiple) ∙ mul-mod-left (x .count) interval
+  next-multiple e = ap (λ (k : ℕ). k % interval) (sym e ∙ due .multiple) ∙ mul-mod-left (length (x .taken)) interval
 
   multiple-next : slot % interval ≡ 0 → x .next ≡ slot
   multiple-next e =
       let slot-is : slot / interval * interval ≡ slot = omega (arith, e, div-add-mod' slot interval) in
       let same : x .next / interval ≡ slot / interval
       = div-eq-of-lt-le interval (omega (arith, slot-is, due .ahead)) (omega (arith, slot-is, due .near)) in
-      let count-is : x .count ≡ slot / interval = sym (div-eq-of-eq-mul-left pos (due .multiple)) ∙ same in
+      let count-is : length (x .taken) ≡ slot / interval = sym (div-eq-of-eq-mul-left pos (due .multiple)) ∙ same in
       due .multiple ∙ ap (λ (k : ℕ). k * interval) count-is ∙ slot-is
 
 module _ (interval : ℕ) (shot : ℕ → List ℕ) (slot : ℕ) (x : Shots) (pos : 1 ≤ interval) (due : Due interval slot x) where
@@ -51,11 +52,11 @@ module _ (interval : ℕ) (shot : ℕ → List ℕ) (slot : ℕ) (x : Shots) (po
 
   -- one snapshot is taken in a slot that is a multiple of the interval, and it shows this slot
   pub taken-at : slot % interval ≡ 0
-      → takeWhile interval shot slot (suc slot) x ≡ record { next = slot + interval; count = x .count + 1; buffer = store (x .buffer) (x .count) (shot slot) }
+      → takeWhile interval shot slot (suc slot) x ≡ record { next = slot + interval; taken = x .taken ++ (shot slot ∷ []) }
   unfolding takeOne
   taken-at e =
       let q = multiple-next interval slot x pos due e in
-      one-taken q ∙ ap (λ (k : ℕ). record { next = k + interval; count = x .count + 1; buffer = store (x .buffer) (x .count) (shot k) }) q
+      one-taken q ∙ ap (λ (k : ℕ). record { next = k + interval; taken = x .taken ++ (shot k ∷ []) }) q
 
   -- and none in another
   pub none-at : (slot % interval ≡ 0 → ⊥) → takeWhile interval shot slot (suc slot) x ≡ x
@@ -67,7 +68,7 @@ module _ (interval : ℕ) (shot : ℕ → List ℕ) (slot : ℕ) (x : Shots) (po
       ⊎-elim
       (λ e.
       subst (Due interval (slot + 1)) (sym (one-taken (sym e)))
-      (unfold takeOne in record { multiple = ap (λ (k : ℕ). k + interval) (due .multiple) ∙ one-more (x .count) interval; ahead = omega arith; near = omega arith }))
+      (unfold takeOne in record { multiple = ap (λ (k : ℕ). k + interval) (due .multiple) ∙ one-more (length (x .taken)) interval ∙ ap (λ (k : ℕ). k * interval) (sym (length-append (x .taken) (shot (x .next) ∷ []))); ahead = omega arith; near = omega arith }))
       (λ h. subst (Due interval (slot + 1)) (sym (none-taken h)) (record { multiple = due .multiple; ahead = omega arith; near = omega (arith, due .near) }))
       (eq-or-lt-of-le (due .ahead))
 

@@ -37,9 +37,10 @@ use denote.Triple.Entry.{onEntry}
 use denote.Triple.Spec.{tripleOf}
 use denote.Triple.Walked.{says, needs, Stays, stay-none, walkOf, goes-none, ends-at, walked, walk-meets}
 use denote.Exit.{yes}
+use Rattle.config.specs.Limits.{maxNodes}
 use Rattle.phy.specs.Slot as Slot
 use Rattle.phy.specs.declared.node.Node.{Node}
-use Rattle.phy.proofs.Lent.{R, Nodes, vals, refAt, spot, LentElem, lends-elem, elem-back}
+use Rattle.phy.proofs.Lent.{R, Nodes, nodeBytes, vals, refAt, spot, LentElem, lends-elem, elem-back}
 use Rattle.phy.proofs.Through.{Held, behind}
 use Rattle.phy.proofs.node.Node as T
 use Rattle.phy.proofs.node.Node.Laws as T′
@@ -51,10 +52,10 @@ at-elem k = record {
   lifetimes = 0;
   outlives = [];
   params = 2;
-  locals = local (tyArray T′.mir 32) valueLocal
-      ∷ local (tyArray T′.mir 32) valueLocal
+  locals = local (tyArray T′.mir maxNodes) valueLocal
+      ∷ local (tyArray T′.mir maxNodes) valueLocal
       ∷ local (tyInt w64) valueLocal
-      ∷ local (tyArray T′.mir 32) memorySlot
+      ∷ local (tyArray T′.mir maxNodes) memorySlot
       ∷ local tyUnit valueLocal
       ∷ local (tyInt w64) valueLocal
       ∷ local tyPtr valueLocal
@@ -62,7 +63,7 @@ at-elem k = record {
       ∷ local (tyRef erased mut (pointee (R .written))) valueLocal
       ∷ [];
   body = seq (assign (place 3 []) (rvOpd (copy (place 1 []))))
-      (seq (assign (place 5 []) (op2 (mul unsigned) (copy (place 2 [])) (int w64 136)))
+      (seq (assign (place 5 []) (op2 (mul unsigned) (copy (place 2 [])) (int w64 nodeBytes)))
       (seq (assign (place 6 []) (addrOf (place 3 [])))
       (seq (assign (place 7 []) (op2 offset (copy (place 6 [])) (copy (place 5 []))))
       (seq (assign (place 8 []) (addrOf (place 7 (deref T′.mir ∷ []))))
@@ -101,13 +102,13 @@ module _ {M : Type 1} (𝓤 : URA M) (H : Heap 𝓤) (A : Atoms 𝓤) (Pre : Nod
     Post = walkOf 𝓤 H A elem.ended stayed in-place .post ((tt, tt, tt, x, at), tt)
 
     nodes-typed : Lawful 𝓤 H A Nodes
-    nodes-typed = array-lawful 𝓤 H A W R (LL.lawful T.the-type T′.the-laws 𝓤 H A W) 32
+    nodes-typed = array-lawful 𝓤 H A W R (LL.lawful T.the-type T′.the-laws 𝓤 H A W) maxNodes
 
     exits : i < 2 ^ 64 → (r : List Node) (v : Val) → r ≡ set xs i (f h) → ent 𝓤 (sem 𝓤 H A (Nodes .own r (v ∷ []))) (Post v)
     exits fits r v e =
         qed W (‵ (Nodes .own r (v ∷ [])) ∷ []) ∵
         suffices ! _ (ends-at 𝓤 H A elem.ended stayed in-place W ((tt, tt, tt, x, at), tt) v r (tt, (tt, tt)) (tt, (tt, tt))) $ says ! e $
-        nothing ! $ owned ! usize (Is usize) (uint-makes 𝓤 H A W w64) i _ (refl, fits) $ fjoin ! $ owned ! Nodes (Is Nodes) (array-makes 𝓤 H A W R (LL.makes T.the-type T′.the-plain 𝓤 H A) 32) xs _ are $ fjoin ! $ nothing ! $ done !
+        nothing ! $ owned ! usize (Is usize) (uint-makes 𝓤 H A W w64) i _ (refl, fits) $ fjoin ! $ owned ! Nodes (Is Nodes) (array-makes 𝓤 H A W R (LL.makes T.the-type T′.the-plain 𝓤 H A) maxNodes) xs _ are $ fjoin ! $ nothing ! $ done !
 
     -- what the callee's triple binds outside: the element at b, lent for the lifetime ν under the name γ
     abbrev to : ℕ → ℕ → GName → Callee .Ghost
@@ -120,7 +121,7 @@ module _ {M : Type 1} (𝓤 : URA M) (H : Heap 𝓤) (A : Atoms 𝓤) (Pre : Nod
         nothing ! $ move ! (2 ∷ 0 ∷ []) $ join ! $ nothing ! $ move ! (2 ∷ 0 ∷ []) $ join ! $ join ! $ use0 W (raw (Pre h)) fit $ move ! (1 ∷ 0 ∷ []) $ done !
 
     module _ (C : Calls 𝓤 H) (Λ : Loops 𝓤 H) (fm : FmC 𝓤 H (W .laws) C) (k : Name) (known : Triple 𝓤 (C k) Callee) where
-      walk : i < 2 ^ 64 → i * 136 < 2 ^ 64 → i < length xs → ent 𝓤 (emp 𝓤) (Pre h) → ent 𝓤 (onEntry 𝓤 H A elem.signature tt tt x at) (WpFn 𝓤 H C Λ (at-elem k) (mach xs ∷ vint w64 i ∷ []) Post)
+      walk : i < 2 ^ 64 → i * nodeBytes < 2 ^ 64 → i < length xs → ent 𝓤 (emp 𝓤) (Pre h) → ent 𝓤 (onEntry 𝓤 H A elem.signature tt tt x at) (WpFn 𝓤 H C Λ (at-elem k) (mach xs ∷ vint w64 i ∷ []) Post)
       walk fits far within fit =
           qed W (‵ ftrue ∷ ‵ (owns (Nodes ∷ usize ∷ []) x at) ∷ []) ∵ enter ! C Λ (at-elem k) (mach xs ∷ vint w64 i ∷ []) _ $
           alloc1 ! (λ l₀. alloc1 ! (λ l₁. alloc1 ! (λ l₂. alloc1 ! (λ l₃. alloc1 ! (λ l₄. alloc1 ! (λ l₅. alloc1 ! (λ l₆. alloc1 ! (λ l₇. alloc1 ! (λ l₈. alloc0 ! $
@@ -146,7 +147,7 @@ module _ {M : Type 1} (𝓤 : URA M) (H : Heap 𝓤) (A : Atoms 𝓤) (Pre : Nod
           land ! (from ! (stop !)) (init ! 14 refl (nothing-lawful 𝓤 H A W .typed r _ is .0)) $
           -- the lifetime is ended, and the array is whole again
           move ! (1 ∷ []) $ split ! $ lft-end ! tt $ move ! (0 ∷ 5 ∷ 3 ∷ []) $
-          use3 W (later (some (λ (v : Val). ‵ (fat fullShare (tyArray T′.mir 32) l₃ 0 v) ⊛ ‵ (Nodes .own (set xs i (ys .0)) (v ∷ [])))))
+          use3 W (later (some (λ (v : Val). ‵ (fat fullShare (tyArray T′.mir maxNodes) l₃ 0 v) ⊛ ‵ (Nodes .own (set xs i (ys .0)) (v ∷ [])))))
           (elem-back (ν ∷ []) l₃ i 𝓤 H A W γ xs (ys .0) within (are .1 .0 .1)) $ await ! tt $ pick ! (λ v. split ! $
           move ! (1 ∷ []) $ peeks ! Nodes (Is Nodes) (shows 𝓤 H A Nodes) (set xs i (ys .0)) (v ∷ []) (λ is′.
           -- [what the array owns; _3; true; what the result owns; true; what i owns; _8; …; _7; …; _6; …; _5; …; _4; …; what frees _3; _2; …; _1; …; room for _0; …; true]
@@ -156,12 +157,12 @@ module _ {M : Type 1} (𝓤 : URA M) (H : Heap 𝓤) (A : Atoms 𝓤) (Pre : Nod
           move ! (13 ∷ 14 ∷ []) $ free1 ! $ move ! (11 ∷ 12 ∷ []) $ free1 ! $ move ! (9 ∷ 10 ∷ []) $ free1 ! $ move ! (7 ∷ 8 ∷ []) $ free1 ! $ move ! (5 ∷ 6 ∷ []) $ free1 ! $ free0 ! $
           keep ! (0 ∷ []) $ by ! (exits fits (set xs i (ys .0)) v (ap (set xs i) e))))))))))))))))))))
 
-  pub elem-meets : ((xs : List Node) (i : ℕ) → φ xs i → (i < 32) × ent 𝓤 (emp 𝓤) (Pre (Slot.at xs i)))
+  pub elem-meets : ((xs : List Node) (i : ℕ) → φ xs i → (i < maxNodes) × ent 𝓤 (emp 𝓤) (Pre (Slot.at xs i)))
       → Given 𝓤 H A → (𝓣 : Tables 𝓤 H) (k : Name) → Triple 𝓤 (𝓣 .C k) Callee → Triple 𝓤 (WpFn 𝓤 H (𝓣 .C) (𝓣 .Λ) (at-elem k)) AtElem
   elem-meets gives W 𝓣 k known =
       walk-meets 𝓤 H A elem.ended stayed W (goes-none 𝓤 H A W 0 (λ _. Nodes) yes (λ κs x f. refl), (goes-none 𝓤 H A W 0 (λ _. usize) yes (λ κs x f. refl), tt)) in-place
       (WpFn 𝓤 H (𝓣 .C) (𝓣 .Λ) (at-elem k)) (WpFn-mono 𝓤 H (W .laws) 𝓣 (at-elem k))
-      (walked 𝓤 H A elem.ended stayed in-place (WpFn 𝓤 H (𝓣 .C) (𝓣 .Λ) (at-elem k)) (λ κs. (array-vals vals, (uint-vals w64, tt))) (λ κs. (array-tells R vals (LL.tells T.the-type T′.the-laws) 32, (uint-tells w64, tt)))
+      (walked 𝓤 H A elem.ended stayed in-place (WpFn 𝓤 H (𝓣 .C) (𝓣 .Λ) (at-elem k)) (λ κs. (array-vals vals, (uint-vals w64, tt))) (λ κs. (array-tells R vals (LL.tells T.the-type T′.the-laws) maxNodes, (uint-tells w64, tt)))
       (λ κs qs bounds a _ are. needs 𝓤 (φ (a .0) (a .1 .0)) _ (λ p.
       let below = gives (a .0) (a .1 .0) p .0 in
       walk W (a .0) (a .1 .0) (are .0) (𝓣 .C) (𝓣 .Λ) (fmOf 𝓤 H (W .laws) 𝓣) k known (are .1 .0 .1) (omega (arith, below)) (subst (λ (m : ℕ). a .1 .0 < m) (sym (are .0 .1 .0 .1)) below) (gives (a .0) (a .1 .0) p .1))))

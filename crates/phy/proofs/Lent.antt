@@ -28,6 +28,7 @@ use denote.Array.{Array}
 use denote.ArrayMemory.{array-apart, array-whole}
 use denote.Steps.{peeks}
 use denote.Struct.Laws as LL
+use Rattle.config.specs.Limits.{maxNodes}
 use Rattle.phy.specs.Slot.{at}
 use Rattle.phy.specs.declared.node.Node.{Node}
 use Rattle.phy.proofs.node.Node as T
@@ -37,7 +38,7 @@ abbrev pub R : RattleType
 R = T.the-row
 
 abbrev pub Nodes : RattleType
-Nodes = Array R 32
+Nodes = Array R maxNodes
 
 abbrev pub vals : Node → List Val
 vals = LL.vals T.the-type T′.the-laws
@@ -47,16 +48,20 @@ abbrev pub refAt : ℕ → ℕ → GName → Node → RefT Node
 refAt b o γ h = record { ptr = (b, o); name = γ; now = h }
 
 -- ---- a node in a local array
+-- the bytes of a node
+abbrev pub nodeBytes : ℕ
+nodeBytes = 144
+
 -- where element i lies
 abbrev pub spot : ℕ → ℕ
-spot i = i * 136 + 0
+spot i = i * nodeBytes + 0
 
 module _ (κ : Lft) (b i : ℕ) where
   abbrev pub LentElem : GName → List Node → Fml
   LentElem γ xs = fsep (flent κ (Body (mem R) b (spot i) γ)) (others (shares R) fullShare xs i b 0)
 
   abbrev τ : Ty
-  τ = tyArray T′.mir 32
+  τ = tyArray T′.mir maxNodes
 
   module _ {M : Type 1} (𝓤 : URA M) (H : Heap 𝓤) (A : Atoms 𝓤) (W : Given 𝓤 H A) where
     abbrev Lends : List Node → GName → SProp 𝓤
@@ -71,13 +76,13 @@ module _ (κ : Lft) (b i : ℕ) where
         qed W (‵ (fat fullShare τ b 0 v) ∷ ‵ (Nodes .own xs (v ∷ [])) ∷ []) ∵ updating ! $
         use1 W (‵ (cellAt fullShare (Nodes .mir) (v ∷ []) b 0)) (W .laws .at-raw fullShare τ b 0 v) $
         fjoin ! $ fpack ! (List Val) (λ vs. fsep (cellAt fullShare (Nodes .mir) vs b 0) (Nodes .own xs vs)) (v ∷ []) $
-        use1 W (‵ (arr-parts (shares R) 32 .part fullShare xs b 0)) (array-apart 𝓤 H A W R fullShare tt 32 xs b 0) $ fsplit ! $ feqL ! (λ _.
+        use1 W (‵ (arr-parts (shares R) maxNodes .part fullShare xs b 0)) (array-apart 𝓤 H A W R fullShare tt maxNodes xs b 0) $ fsplit ! $ feqL ! (λ _.
         use1 W (‵ (partAt R fullShare (at xs i) b (place (mem R .size) 0 i)) ⊛ ‵ (others (shares R) fullShare xs i b 0)) (takes (shares R) fullShare 𝓤 H A W xs i _ b 0 l) $ split ! $
         rewrite ! 0 (λ (o : ℕ). ‵ (partAt R fullShare (at xs i) b o)) (place-is (mem R .size) 0 i) refl $
         use1 W (later (some (λ (γ : GName). ‵ (MutRef (named 0) κ R .own (refAt b (spot i) γ (at xs i)) (vptr b (spot i) ∷ [])) ⊛ ‵ (flent κ (Body (mem R) b (spot i) γ))))) (lends-ref 𝓤 H A W R (named 0) κ (at xs i) b (spot i)) $ await ! tt $ pick ! (λ γ. split ! $
         at-once ! $ show ! (Lends xs) γ $ frame ! $ fjoin ! $ done !))
 
-    pub elem-back : (γ : GName) (xs : List Node) (y : Node) → i < length xs → length xs ≡ 32
+    pub elem-back : (γ : GName) (xs : List Node) (y : Node) → i < length xs → length xs ≡ maxNodes
         → ent 𝓤 (sep 𝓤 (A .dead κ) (sep 𝓤 (sem 𝓤 H A (LentElem γ xs)) (A .res γ (R .coded .code y)))) (H .⇛ (ex 𝓤 (All (set xs i y))))
     unfolding partOf
     elem-back γ xs y l e =
@@ -85,8 +90,8 @@ module _ (κ : Lft) (b i : ℕ) where
         use3 W (later (‵ (mem R .lies y b (spot i)))) (ref-back 𝓤 H A W R κ γ y b (spot i)) $ await ! tt $
         rewrite ! 0 (λ (o : ℕ). ‵ (partAt R fullShare y b o)) (sym (place-is (mem R .size) 0 i)) refl $
         use2 W (‵ (row R fullShare (set xs i y) b 0)) (puts (shares R) fullShare 𝓤 H A W xs i y b 0 l) $
-        feqI ! ℕ (length (set xs i y)) 32 (length-set xs i y ∙ e) $ fjoin ! $
-        use1 W (‵ (partAt Nodes fullShare (set xs i y) b 0)) (array-whole 𝓤 H A W R fullShare 32 (set xs i y) b 0) $ at-once ! $
+        feqI ! ℕ (length (set xs i y)) maxNodes (length-set xs i y ∙ e) $ fjoin ! $
+        use1 W (‵ (partAt Nodes fullShare (set xs i y) b 0)) (array-whole 𝓤 H A W R fullShare maxNodes (set xs i y) b 0) $ at-once ! $
         fpick ! (λ vs. fsplit ! $ move ! (1 ∷ []) $ peeks ! Nodes (Is Nodes) (shows 𝓤 H A Nodes) (set xs i y) vs (λ p.
         rewrite ! 0 (λ (us : List Val). ‵ (Nodes .own (set xs i y) us)) (p .1 .0 .0) refl $
         rewrite ! 1 (λ (us : List Val). ‵ (cellAt fullShare (Nodes .mir) us b 0)) (p .1 .0 .0) refl $ move ! (1 ∷ 0 ∷ []) $

@@ -1,7 +1,7 @@
 -- A round in which no attempt is lost, on a graph that passes the row check and is joined. Assumes nothing.
 use Prim.Native.Nat.{ℕ, zero, suc, _+_, _-_, _≤_, _<_, min}
 use mathlib.Core.Path.{_≡_, refl, sym, ap, subst, _∙_}
-use mathlib.Core.Bool.{Bool, true, false, cond}
+use mathlib.Core.Bool.{Bool, true, false, cond, or-true}
 use mathlib.Core.List.{List}
 use mathlib.Core.Logic.{⊎-elim}
 use mathlib.Core.Option.{some}
@@ -11,14 +11,14 @@ use lib.Dec.{eqb, ltb}
 use borrow.Author.Tests.{lt-ltb, le-ltb, eqb-true, eqb-false}
 use Rattle.network.specs.Graph.{has, linked, setOf, Checked}
 use Rattle.network.specs.Distance.{distance, links, eccentricity, Joined}
-use Rattle.network.proofs.Sets.{two, never, or-right, setOf-cong, count-lt}
+use Rattle.network.proofs.Sets.{two, never, setOf-cong, count-lt}
 use Rattle.random.proofs.Tables.{getD-tabulate}
 use Rattle.network.proofs.Distances.{distance-self, distance-zero, distance-link, distance-before, joined-distance, eccentricity-bound, eccentricity-each}
 use Rattle.phy.specs.declared.node.Node.{Node}
 use Rattle.phy.specs.declared.node.NodeState.{NodeState}
 use Rattle.phy.specs.declared.node.Payload.{Payload}
 use Rattle.phy.specs.declared.packet.Packet.{Packet}
-use Rattle.phy.specs.declared.ci.RoundSlots.{RoundSlots}
+use Rattle.config.specs.declared.RoundSlots.{RoundSlots}
 use Rattle.phy.specs.Packets.{holds}
 use Rattle.phy.specs.Node.{new, transition, holding, begunBy, deliveredTo, listens, floods, sleeps, isFlooding, isSleeping}
 use Rattle.phy.specs.Slot.{Setup, Standing, at, howMany, ticked, triesIn, slotStep}
@@ -214,7 +214,7 @@ lossless-round g limit a packet s ck joined ha pos enough all =
       slept = λ j h. ap (λ (v : Node). v .«slots_sleep») (node j h) ∙ omega (arith, ends j h .slept, away-most (g .rows) (g .nodes) a ck joined ha j h);
       asleep = λ j h. asleep j h;
       held = λ j h. ap (λ (v : Node). v .payload) (node j h);
-      part = setOf-cong (g .nodes) (λ j h. or-right (eqb j a) (isSleeping (at after j)) (asleep j h));
+      part = setOf-cong (g .nodes) (λ j h. rw (asleep j h) (or-true (eqb j a)));
       covered = count-all (g .nodes) (λ (j : ℕ). holds packet (at after j .payload)) (λ j h. ap (λ (v : Node). holds packet (v .payload)) (node j h) ∙ same-packet-itself packet);
       tries = none-lost (tallied-round g limit a packet s) all;
     }

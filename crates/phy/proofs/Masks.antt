@@ -1,8 +1,8 @@
 -- Sets of nodes in a word. Assumes nothing.
 use Prim.Native.Nat.{ℕ, zero, suc, _+_, _*_, _/_, _%_, _^_, _≤_, _<_}
 use mathlib.Core.Path.{_≡_, refl, sym, ap, subst, _∙_}
-use mathlib.Core.Bool.{Bool, true, false, cond, _&&_, _||_}
-use mathlib.Core.Logic.{_⊎_, ⊎-elim}
+use mathlib.Core.Bool.{Bool, true, false, cond, _&&_, _||_, and-false, or-false, or-comm}
+use mathlib.Core.Logic.{⊎-elim}
 use native.Mathlib.Nat.{mod-lt, not-suc-le-zero, le-of-suc-le-suc, zero-div, eq-or-lt-of-le, add-zero}
 use native.Mathlib.Omega.{arith}
 use lib.Dec.{eqb}
@@ -46,20 +46,12 @@ module _ (w : ℕ) {s j : ℕ} (small : s < 2 ^ w) (in-word : j < w) where
           found : has (2 ^ j) k ≡ eqb k j → has (2 ^ j) k ≡ true → has s k ≡ true
           found q e = ap (has s) (eqb-true k j (sym q ∙ e)) ∙ p
 
-          or-false : (b : Bool) → b || false ≡ b
-          or-false true = refl
-          or-false false = refl
-
       apart : has s j ≡ false → (k : ℕ) → k < w → has s k && has (2 ^ j) k ≡ false
       apart p k h =
           ⊎-elim
           (λ e. ap (λ (b : Bool). b && has (2 ^ j) k) (ap (has s) (eqb-true k j (sym (has-one w j k in-word h) ∙ e)) ∙ p))
           (λ e. ap (λ (b : Bool). has s k && b) e ∙ and-false (has s k))
           (two (has (2 ^ j) k))
-        where
-          and-false : (b : Bool) → b && false ≡ false
-          and-false true = refl
-          and-false false = refl
 
       present : has s j ≡ true → bitOr s (2 ^ j) ≡ cond (has s j) s (s + 2 ^ j)
       present p =
@@ -77,12 +69,6 @@ module _ (w : ℕ) {s j : ℕ} (small : s < 2 ^ w) (in-word : j < w) where
 
   pub has-insert : (k : ℕ) → k < w → has (insert j s) k ≡ eqb k j || has s k
   has-insert k h = ap (λ (x : ℕ). has x k) (sym or-bit) ∙ has-or s (2 ^ j) k ∙ ap (λ (b : Bool). has s k || b) (has-one w j k in-word h) ∙ or-comm (has s k) (eqb k j)
-    where
-      or-comm : (a b : Bool) → a || b ≡ b || a
-      or-comm true true = refl
-      or-comm true false = refl
-      or-comm false true = refl
-      or-comm false false = refl
 
   pub insert-lt : insert j s < 2 ^ w
   insert-lt = subst (λ (x : ℕ). x < 2 ^ w) or-bit (or-lt w s (2 ^ j) small (pow-lt in-word))

@@ -13,17 +13,16 @@ use borrow.Author.Tests.{eqb-true, eq-eqb, ltb-true, ltb-false}
 use Rattle.network.specs.Graph.{has, all}
 use Rattle.network.proofs.Lowest.{Next}
 use Rattle.network.proofs.Sets.{two, never, same, all-elim, all-intro}
-use Rattle.phy.specs.declared.packet.LastAccepted.{LastAccepted}
-use Rattle.phy.specs.declared.packet.Data.{Data}
-use Rattle.phy.specs.declared.packet.Piggyback.{Piggyback}
+use Rattle.phy.specs.declared.packet.Part.{Part}
 use Rattle.phy.specs.declared.packet.Packet.{Packet}
-use Rattle.phy.specs.Packets.{acceptedCase, acceptedTerm, dataCase, dataTerm, backCase, backTerm, backData, numbersOf, samePacket}
+use Rattle.phy.specs.Packets.{packetNumbers, samePacket}
+use Rattle.phy.specs.Limits.{packetSize}
 use Rattle.phy.specs.View.{Gave, GaveAll, sameNumbers}
-use Rattle.phy.proofs.Packets.{same-packet-equal, same-packet-itself}
+use Rattle.phy.proofs.Packets.{packet-equal, same-packet-equal, same-packet-itself}
 
 -- ---- a packet is written, one number after the other
 pub record Giving (at : ℕ) (packet h h' : List ℕ) (k : ℕ) : Type 0 where
-  pub within : k ≤ 12
+  pub within : k ≤ packetSize
   pub size : length h' ≡ length h
   pub given : (m : ℕ) → m < k → getD h' (at + m) 0 ≡ getD packet m 0
   pub low : (p : ℕ) → p < at → getD h' p 0 ≡ getD h p 0
@@ -32,7 +31,7 @@ pub record Giving (at : ℕ) (packet h h' : List ℕ) (k : ℕ) : Type 0 where
 pub giving-none : (at : ℕ) (packet h : List ℕ) → Giving at packet h h 0
 giving-none at packet h = record { within = omega arith; size = refl; given = λ m b. absurd (omega arith); low = λ p b. refl; high = λ p b. refl }
 
-pub giving-more : {at : ℕ} {packet h h' : List ℕ} {k p v : ℕ} → Giving at packet h h' k → k < 12 → at + 12 ≤ length h → p ≡ at + k → v ≡ getD packet k 0 → Giving at packet h (set h' p v) (k + 1)
+pub giving-more : {at : ℕ} {packet h h' : List ℕ} {k p v : ℕ} → Giving at packet h h' k → k < packetSize → at + packetSize ≤ length h → p ≡ at + k → v ≡ getD packet k 0 → Giving at packet h (set h' p v) (k + 1)
 giving-more {at} {packet} {h} {h'} {k} {p} {v} g less fits e w =
     record {
       within = omega arith;
@@ -45,13 +44,13 @@ giving-more {at} {packet} {h} {h'} {k} {p} {v} g less fits e w =
       high = λ q b. getD-set-other h' p q v 0 (λ z. omega (arith, z, e)) ∙ g .high q (omega arith);
     }
 
-pub giving-all : {i : ℕ} {packet h h' : List ℕ} {k : ℕ} → Giving (12 * i) packet h h' k → 12 ≤ k → Gave i packet h h'
+pub giving-all : {i : ℕ} {packet h h' : List ℕ} {k : ℕ} → Giving (packetSize * i) packet h h' k → packetSize ≤ k → Gave i packet h h'
 giving-all {i} {packet} {h} {h'} {k} g all =
     record {
       size = g .size;
       given = λ m b. g .given m (omega arith);
       others = λ j m ne b.
-          ⊎-elim (λ l. g .low (12 * j + m) (omega arith)) (λ w. g .high (12 * j + m) (omega (arith, g .within)))
+          ⊎-elim (λ l. g .low (packetSize * j + m) (omega arith)) (λ w. g .high (packetSize * j + m) (omega (arith, g .within)))
           (sides j ne);
     }
   where
@@ -62,8 +61,8 @@ giving-all {i} {packet} {h} {h'} {k} g all =
 -- ---- the nodes of a set get a packet, those below m first
 pub record GivingAll (set : ℕ) (packet h h' : List ℕ) (m : ℕ) : Type 0 where
   pub size : length h' ≡ length h
-  pub given : (k : ℕ) → k < m → has set k ≡ true → (i : ℕ) → i < 12 → getD h' (12 * k + i) 0 ≡ getD packet i 0
-  pub others : (k : ℕ) → (k < m → has set k ≡ false) → (i : ℕ) → i < 12 → getD h' (12 * k + i) 0 ≡ getD h (12 * k + i) 0
+  pub given : (k : ℕ) → k < m → has set k ≡ true → (i : ℕ) → i < packetSize → getD h' (packetSize * k + i) 0 ≡ getD packet i 0
+  pub others : (k : ℕ) → (k < m → has set k ≡ false) → (i : ℕ) → i < packetSize → getD h' (packetSize * k + i) 0 ≡ getD h (packetSize * k + i) 0
 
 pub giving-all-none : (set : ℕ) (packet h : List ℕ) → GivingAll set packet h h 0
 giving-all-none set packet h = record { size = refl; given = λ k b. absurd (omega (arith, b)); others = λ k e i b. refl }
@@ -73,7 +72,7 @@ giving-all-more {w} {set} {rest} {m} {t} {packet} {h} {h'} {h''} g next gave =
     record {
       size = gave .size ∙ g .size;
       given = λ k b e i u.
-          ⊎-elim (λ p. ap (λ (j : ℕ). getD h'' (12 * j + i) 0) p ∙ gave .given i u)
+          ⊎-elim (λ p. ap (λ (j : ℕ). getD h'' (packetSize * j + i) 0) p ∙ gave .given i u)
           (λ l. gave .others k i (λ p. omega (arith, p, l)) u ∙ g .given k (earlier k l e) e i u)
           (eq-or-lt-of-le (omega (arith, b)));
       others = λ k e i u.
@@ -91,45 +90,21 @@ giving-all-end {set} {m} g none =
       others = λ k e. g .others k (λ b. e);
     }
 
+-- the part at a place
+abbrev partAt : List ℕ → ℕ → Part
+partAt l k = record { given = getD l k 0; term = getD l (k + 1) 0 }
+
 -- ---- packets are equal exactly when their numbers are
-accepted-by : (a b : LastAccepted) → acceptedCase a ≡ acceptedCase b → acceptedTerm a ≡ acceptedTerm b → a ≡ b
-accepted-by LastAccepted.None LastAccepted.None c t = refl
-accepted-by LastAccepted.None (LastAccepted.At u) c t = absurd (omega (arith, c))
-accepted-by (LastAccepted.At u) LastAccepted.None c t = absurd (omega (arith, c))
-accepted-by (LastAccepted.At u) (LastAccepted.At w) c t = λ i. LastAccepted.At (record { 0 = t i })
-
-data-by : (a b : Data) → dataCase a ≡ dataCase b → dataTerm a ≡ dataTerm b → a ≡ b
-data-by Data.Empty Data.Empty c t = refl
-data-by Data.Empty (Data.Of u) c t = absurd (omega (arith, c))
-data-by (Data.Of u) Data.Empty c t = absurd (omega (arith, c))
-data-by (Data.Of u) (Data.Of w) c t = λ i. Data.Of (record { 0 = t i })
-
-back-by : (a b : Piggyback) → backCase a ≡ backCase b → backTerm a ≡ backTerm b → backData a ≡ backData b → a ≡ b
-back-by Piggyback.None Piggyback.None c t d = refl
-back-by Piggyback.None (Piggyback.Of u e) c t d = absurd (omega (arith, c))
-back-by (Piggyback.Of u e) Piggyback.None c t d = absurd (omega (arith, c))
-back-by (Piggyback.Of u e) (Piggyback.Of w f) c t d = λ i. Piggyback.Of (record { 0 = t i }) (d i)
-
-numbers-equal : (p q : Packet) → ((k : ℕ) → k < 12 → getD (numbersOf p) k 0 ≡ getD (numbersOf q) k 0) → p ≡ q
+numbers-equal : (p q : Packet) → ((k : ℕ) → k < packetSize → getD (packetNumbers p) k 0 ≡ getD (packetNumbers q) k 0) → p ≡ q
 numbers-equal p q e =
-    let last = accepted-by (p .«last_accepted_term») (q .«last_accepted_term») (e 4 (omega arith)) (e 5 (omega arith)) in
-    let proposal = data-by (p .«proposal_data») (q .«proposal_data») (e 6 (omega arith)) (e 7 (omega arith)) in
-    let again = data-by (backData (p .piggyback)) (backData (q .piggyback)) (e 10 (omega arith)) (e 11 (omega arith)) in
-    let back = back-by (p .piggyback) (q .piggyback) (e 8 (omega arith)) (e 9 (omega arith)) again in
-    λ i.
-    record {
-      «current_term» = record { 0 = e 1 (omega arith) i };
-      «last_accepted_term» = last i;
-      «flags_bitmap» = e 2 (omega arith) i;
-      «nack_term» = record { 0 = e 3 (omega arith) i };
-      sender = record { 0 = e 0 (omega arith) i };
-      «proposal_data» = proposal i;
-      piggyback = back i;
-    }
+    packet-equal p q (e 1 (omega arith)) (e 2 (omega arith)) (e 0 (omega arith)) (two-at 3 (omega arith)) (two-at 5 (omega arith)) (two-at 7 (omega arith)) (two-at 9 (omega arith)) (two-at 11 (omega arith))
+  where
+    two-at : (k : ℕ) → k + 1 < packetSize → partAt (packetNumbers p) k ≡ partAt (packetNumbers q) k
+    two-at k h = λ i. record { given = e k (omega arith) i; term = e (k + 1) h i }
 
 -- the code's comparison
-pub same-numbers : (p q : Packet) (h : List ℕ) (j : ℕ) → ((k : ℕ) → k < 12 → getD h (12 * j + k) 0 ≡ getD (numbersOf q) k 0) → sameNumbers h (numbersOf p) j ≡ samePacket p q
+pub same-numbers : (p q : Packet) (h : List ℕ) (j : ℕ) → ((k : ℕ) → k < packetSize → getD h (packetSize * j + k) 0 ≡ getD (packetNumbers q) k 0) → sameNumbers h (packetNumbers p) j ≡ samePacket p q
 same-numbers p q h j holds =
     same
-    (λ e. let eq : p ≡ q = numbers-equal p q (λ k b. sym (sym (holds k b) ∙ eqb-true _ _ (all-elim 12 _ e k b))) in ap (samePacket p) (sym eq) ∙ same-packet-itself p)
-    (λ e. let eq : p ≡ q = same-packet-equal p q e in all-intro 12 _ (λ k b. eq-eqb _ _ (holds k b ∙ ap (λ (r : Packet). getD (numbersOf r) k 0) (sym eq))))
+    (λ e. let eq : p ≡ q = numbers-equal p q (λ k b. sym (sym (holds k b) ∙ eqb-true _ _ (all-elim packetSize _ e k b))) in ap (samePacket p) (sym eq) ∙ same-packet-itself p)
+    (λ e. let eq : p ≡ q = same-packet-equal p q e in all-intro packetSize _ (λ k b. eq-eqb _ _ (holds k b ∙ ap (λ (r : Packet). getD (packetNumbers r) k 0) (sym eq))))

@@ -1,9 +1,9 @@
 -- Who hears in a slot in which no attempt is lost. Assumes nothing.
 use Prim.Native.Nat.{ℕ, zero, suc, _^_, _≤_, _<_}
 use mathlib.Core.Path.{_≡_, refl, sym, ap, ap₂, subst, _∙_}
-use mathlib.Core.Bool.{Bool, true, false, cond, _&&_, _||_}
+use mathlib.Core.Bool.{Bool, true, false, cond, _&&_, _||_, or-false}
 use mathlib.Core.List.{List, [], _∷_, _++_}
-use mathlib.Core.Logic.{_⊎_, ⊎-elim}
+use mathlib.Core.Logic.{⊎-elim}
 use native.Mathlib.Nat.{le-refl, eq-or-lt-of-le, le-of-suc-le-suc}
 use native.Mathlib.Omega.{arith}
 use lib.Dec.{eqb}
@@ -96,10 +96,6 @@ reached-all : (h : ℕ → Bool) (w : ℕ) (t : Tries) (js : List ℕ) → t .re
     → (j : ℕ) → j < w → has (attemptAll h t js .reached) j ≡ has (t .reached) j || isIn j js
 unfolding attemptAll isIn attempt
 reached-all h w t [] small below all j hj = sym (or-false (has (t .reached) j))
-  where
-    or-false : (b : Bool) → b || false ≡ b
-    or-false true = refl
-    or-false false = refl
 reached-all h w t (x ∷ js) small below all j hj =
     let heard : h (t .attempts) ≡ true = all (t .attempts) (le-refl (t .attempts)) (omega (arith, attempts-all h t (x ∷ js))) in
     let within : x < w = below x (ap (λ (b : Bool). b || isIn x js) (eq-eqb x x refl)) in

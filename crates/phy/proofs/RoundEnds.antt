@@ -1,5 +1,5 @@
 -- A round's begin and end, as the code keeps them. Assumes nothing.
-use Prim.Native.Nat.{ℕ, zero, suc, _+_, _-_, _*_, _%_, _^_, _≤_, _<_}
+use Prim.Native.Nat.{ℕ, zero, suc, _+_, _-_, _*_, _^_, _≤_, _<_}
 use mathlib.Core.Path.{_≡_, refl, sym, ap, ap₂, subst, subst⁻¹, _∙_}
 use mathlib.Core.Bool.{Bool, true, false, not, cond, _&&_, _||_}
 use mathlib.Core.List.{List}
@@ -8,12 +8,12 @@ use native.Mathlib.Nat.{pow-suc, lt-of-lt-of-le, zero-add}
 use native.Mathlib.Omega.{arith}
 use lib.Bits.{bitOr}
 use lib.Dec.{eqb}
-use lib.Pow.{pow-lt, pow-mono}
-use lib.ListN.{length, getD, set}
+use lib.Pow.{pow-mono}
+use lib.ListN.{length, getD, set, length-set}
 use lib.Seq.{getD-set-same, getD-set-other}
 use borrow.Author.Tests.{eqb-true, eqb-false, eq-eqb, ne-eqb, lt-ltb, not-true, not-false}
 use Rattle.network.specs.Graph.{has, setOf}
-use Rattle.network.proofs.Sets.{two, has-or, has-one, has-setOf, setOf-cong, setOf-lt, setOf-one, one-shl}
+use Rattle.network.proofs.Sets.{two, has-or, has-one, has-setOf, setOf-cong, setOf-lt, setOf-one}
 use Rattle.random.proofs.Tables.{getD-tabulate}
 use Rattle.phy.specs.declared.ci.Delivered.{Delivered}
 use Rattle.phy.specs.declared.node.Node.{Node}
@@ -22,11 +22,13 @@ use Rattle.phy.specs.declared.node.NodeState.the-variants.{Listen, Flood
 use Rattle.phy.specs.declared.node.Payload.{Payload}
 use Rattle.phy.specs.declared.packet.Packet.{Packet}
 use Rattle.phy.specs.declared.slot.Flood.{Flood as Floods}
+use Rattle.phy.specs.declared.slot.Settings.{Settings}
+use Rattle.phy.specs.Limits.{setBits, packetSize}
 use Rattle.phy.specs.Node.{new, begunBy, deliveredTo, holding, listens, floods, sleeps, isListening, isFlooding, isSleeping}
-use Rattle.phy.specs.Packets.{numbersOf, holds}
+use Rattle.phy.specs.Packets.{packetNumbers, holds}
 use Rattle.phy.specs.Slot.{Standing, at, insert, sumOf}
 use Rattle.phy.specs.Round.{begun, delivered, withNodes, participants, coverage}
-use Rattle.phy.specs.View.{Gave, Holding, Stands, Queued, Cleared, placeAfter, begunFlood, Delivers, sameNumbers}
+use Rattle.phy.specs.View.{tables, Gave, Holding, Stands, Queued, InSlot, Cleared, placeAfter, begunFlood, CanBegin, Begins, Delivers, sameNumbers}
 use Rattle.phy.proofs.Masks.{has-zero, has-insert, insert-lt}
 use Rattle.phy.proofs.Nodes.{delivered-state, count-cong, total-begun, total-delivered}
 use Rattle.phy.proofs.Numbers.{same-numbers}
@@ -46,15 +48,9 @@ two-parts (suc n) f = omega (arith, two-parts n f, pow-suc 2 n, one (f n))
 pub all-but : (n first : ℕ) → first < n → setOf n (λ (j : ℕ). not (eqb j first)) ≡ 2 ^ n - 1 - 2 ^ first
 all-but n first h = omega (arith, two-parts n (λ (j : ℕ). eqb j first), setOf-one n first h)
 
--- one node is no more than all of them
-pub own-fits : (n first : ℕ) → first < n → n < 64 → 1 * 2 ^ first % 2 ^ 64 ≤ 1 * 2 ^ n % 2 ^ 64 - 1
-own-fits n first h small =
-    subst⁻¹ (λ (a : ℕ). a ≤ 1 * 2 ^ n % 2 ^ 64 - 1) (one-shl 64 first (omega arith))
-    (subst⁻¹ (λ (a : ℕ). 2 ^ first ≤ a - 1) (one-shl 64 n small) (omega (arith, pow-lt h)))
-
 -- ---- a round begins
-module _ (n repeats first : ℕ) (packet : Packet) (x : Floods) (h h' b : List ℕ) (s : Standing) (few : first < n) (most : n ≤ 64) (some : 1 ≤ repeats)
-    (gave : Gave first (numbersOf packet) h h') (st : Stands n x h b s) where
+module _ (n repeats first : ℕ) (packet : Packet) (x : Floods) (h h' b₀ b : List ℕ) (s : Standing) (few : first < n) (most : n ≤ setBits) (some : 1 ≤ repeats)
+    (gave : Gave first (packetNumbers packet) h h') (st : Stands n x h b₀ b s) where
   abbrev nodes : List Node
   nodes = s .nodes
 
@@ -87,6 +83,7 @@ module _ (n repeats first : ℕ) (packet : Packet) (x : Floods) (h h' b : List �
   begun-queued e room none =
       record {
         place = some;
+        room = omega (arith, room, length-set e (repeats - 1) (2 ^ first));
         left = λ j p f. let r = left-then j p f in (omega (arith, r), omega (arith, r));
         stand = λ i j l p. stands i j l p (two (eqb i (repeats - 1))) (two (isFlooding (at opened j)));
       }
@@ -123,13 +120,13 @@ module _ (n repeats first : ℕ) (packet : Packet) (x : Floods) (h h' b : List �
       (⊎-elim own other (two (eqb j first)))
     where
       bit : has (insert first (x .holding)) j ≡ eqb j first || has (x .holding) j
-      bit = has-insert 64 (st .holders) (omega arith) j (omega arith)
+      bit = has-insert setBits (st .holders) (omega arith) j (omega arith)
 
       own : eqb j first ≡ true → Holding h' (insert first (x .holding)) j (begunBy (eqb j first) packet repeats (at nodes j) .payload)
       own e =
           subst (λ (c : Bool). Holding h' (insert first (x .holding)) j (begunBy c packet repeats (at nodes j) .payload)) (sym e) (
             bit ∙ ap (λ (c : Bool). c || has (x .holding) j) e,
-            λ k q. ap (λ (i : ℕ). getD h' (12 * i + k) 0) (eqb-true j first e) ∙ gave .given k q,
+            λ k q. ap (λ (i : ℕ). getD h' (packetSize * i + k) 0) (eqb-true j first e) ∙ gave .given k q,
           )
 
       kept : (v : Payload) → eqb j first ≡ false → Holding h (x .holding) j v → Holding h' (insert first (x .holding)) j v
@@ -141,13 +138,14 @@ module _ (n repeats first : ℕ) (packet : Packet) (x : Floods) (h h' b : List �
           subst (λ (c : Bool). Holding h' (insert first (x .holding)) j (begunBy c packet repeats (at nodes j) .payload)) (sym e)
           (kept (at nodes j .payload) e (st .held j p))
 
-  begun-stands : Stands n (begunFlood n first x) h' b (withNodes opened s)
+  begun-stands : Stands n (begunFlood n first x) h' b₀ b (withNodes opened s)
   begun-stands =
       record {
         listening = sym (all-but n first few) ∙ setOf-cong n (λ j p. sym (listening-then j p));
         flooding = sym (setOf-one n first few) ∙ setOf-cong n (λ j p. sym (flooding-then j p));
+        room = gave .size ∙ st .room;
         held = held-then;
-        holders = insert-lt 64 (st .holders) (omega arith);
+        holders = insert-lt setBits (st .holders) (omega arith);
         listens = st .listens ∙ sym (same-count (λ (v : Node). v .«slots_listen») (λ v. refl) (λ v. refl));
         floods = st .floods ∙ sym (same-count (λ (v : Node). v .«slots_flood») (λ v. refl) (λ v. refl));
         sleeps = st .sleeps ∙ sym (same-count (λ (v : Node). v .«slots_sleep») (λ v. refl) (λ v. refl));
@@ -159,17 +157,18 @@ module _ (n repeats first : ℕ) (packet : Packet) (x : Floods) (h h' b : List �
       }
 
 -- the same of what the code's begin gave
-pub opens : (n repeats first : ℕ) (packet : Packet) {key : List ℕ} {x y : Floods} {e₀ e e' h h' b : List ℕ} {s : Standing} → first < n → n ≤ 64 → 1 ≤ repeats
-    → repeats ≤ length e → Cleared repeats e₀ e
-    → key ≡ numbersOf packet → y ≡ begunFlood n first x → e' ≡ set e (repeats - 1) (2 ^ first) → Gave first key h h' → Stands n x h b s
-    → Stands n y h' b (withNodes (begun n repeats first packet (s .nodes)) s) × Queued n repeats e' 0 (begun n repeats first packet (s .nodes))
-opens n repeats first packet {key} {x} {y} {e₀} {e} {e'} {h} {h'} {b} {s} few most some room cleared k f w gave st =
-    let gave' = subst (λ (m : List ℕ). Gave first m h h') k gave in (
-      subst⁻¹ (λ (z : Floods). Stands n z h' b (withNodes (begun n repeats first packet (s .nodes)) s)) f
-          (begun-stands n repeats first packet x h h' b s few most some gave' st),
-      subst⁻¹ (λ (m : List ℕ). Queued n repeats m 0 (begun n repeats first packet (s .nodes))) w
-          (begun-queued n repeats first packet x h h' b s few most some gave' st e room (cleared .empty)),
-    )
+pub opens : (g : Settings) (first : ℕ) (packet : Packet) {key : List ℕ} {x y : Floods} {e₀ e e' w h h' b₀ b : List ℕ} {s : Standing} → CanBegin g first h → g .repeats ≤ length e₀
+    → Cleared (g .repeats) e₀ e → key ≡ packetNumbers packet → Begins g first key x e h y e' h' → Stands (g .nodes) x h b₀ b s
+    → InSlot g 0 y (tables e' w b) h' b₀ (withNodes (begun (g .nodes) (g .repeats) first packet (s .nodes)) s)
+opens g first packet {key} {x} {y} {e₀} {e} {e'} {w} {h} {h'} {b₀} {b} {s} can room cleared k begins st =
+    let n = g .nodes in
+    let gave = subst (λ (m : List ℕ). Gave first m h h') k (begins .held) in
+    record {
+      stands = subst⁻¹ (λ (z : Floods). Stands n z h' b₀ b (withNodes (begun n (g .repeats) first packet (s .nodes)) s)) (begins .flood)
+          (begun-stands n (g .repeats) first packet x h h' b₀ b s (can .node) (omega (arith, can .few)) (can .repeats .0) gave st);
+      queued = subst⁻¹ (λ (m : List ℕ). Queued n (g .repeats) m 0 (begun n (g .repeats) first packet (s .nodes))) (begins .queue)
+          (begun-queued n (g .repeats) first packet x h h' b₀ b s (can .node) (omega (arith, can .few)) (can .repeats .0) gave st e (omega (arith, room, cleared .size)) (cleared .empty));
+    }
 
 -- ---- a round ends
 -- another set of nodes holds a packet
@@ -189,8 +188,8 @@ heldFlood set x =
       snapshots = x .snapshots;
     }
 
-module _ (n first : ℕ) (packet : Packet) (x : Floods) (r : Delivered) (h h' b : List ℕ) (s : Standing) (most : n ≤ 64)
-    (st : Stands n x h b s) (d : Delivers n first (numbersOf packet) (bitOr (x .listening) (x .flooding)) (x .holding) h r h') where
+module _ (n first : ℕ) (packet : Packet) (x : Floods) (r : Delivered) (h h' b₀ b : List ℕ) (s : Standing) (most : n ≤ setBits)
+    (st : Stands n x h b₀ b s) (d : Delivers n first (packetNumbers packet) (bitOr (x .listening) (x .flooding)) (x .holding) h r h') where
   abbrev awake : ℕ
   awake = bitOr (x .listening) (x .flooding)
 
@@ -224,17 +223,17 @@ module _ (n first : ℕ) (packet : Packet) (x : Floods) (r : Delivered) (h h' b 
   same-sum : (f : Node → ℕ) → ((v : Node) → f (holding packet v) ≡ f v) → sumOf f given n ≡ sumOf f (s .nodes) n
   same-sum f e = sum-cong f (s .nodes) given n (λ j p. ap f (got j p) ∙ field-of f (at (s .nodes) j) (e (at (s .nodes) j)))
 
-  covered-by : (j : ℕ) → j < n → not (has awake j) || (has (x .holding) j && sameNumbers h (numbersOf packet) j) ≡ holds packet (at given j .payload)
+  covered-by : (j : ℕ) → j < n → not (has awake j) || (has (x .holding) j && sameNumbers h (packetNumbers packet) j) ≡ holds packet (at given j .payload)
   covered-by j p =
-      ap (λ (c : Bool). c || (has (x .holding) j && sameNumbers h (numbersOf packet) j)) (asleep j p)
+      ap (λ (c : Bool). c || (has (x .holding) j && sameNumbers h (packetNumbers packet) j)) (asleep j p)
       ∙ go (isSleeping (at (s .nodes) j)) (at (s .nodes) j) (st .held j p)
       ∙ ap (λ (v : Node). holds packet (v .payload)) (sym (got j p))
     where
-      kept : (v : Payload) → Holding h (x .holding) j v → has (x .holding) j && sameNumbers h (numbersOf packet) j ≡ holds packet v
-      kept Payload.None q = ap (λ (c : Bool). c && sameNumbers h (numbersOf packet) j) q
+      kept : (v : Payload) → Holding h (x .holding) j v → has (x .holding) j && sameNumbers h (packetNumbers packet) j ≡ holds packet v
+      kept Payload.None q = ap (λ (c : Bool). c && sameNumbers h (packetNumbers packet) j) q
       kept (Payload.Of w) q = ap₂ _&&_ (q .0) (same-numbers packet w h j (q .1))
 
-      go : (c : Bool) (v : Node) → Holding h (x .holding) j (v .payload) → c || (has (x .holding) j && sameNumbers h (numbersOf packet) j) ≡ holds packet (cond c (holding packet v) v .payload)
+      go : (c : Bool) (v : Node) → Holding h (x .holding) j (v .payload) → c || (has (x .holding) j && sameNumbers h (packetNumbers packet) j) ≡ holds packet (cond c (holding packet v) v .payload)
       go true v q = sym (same-packet-itself packet)
       go false v q = kept (v .payload) q
 
@@ -257,12 +256,13 @@ module _ (n first : ℕ) (packet : Packet) (x : Floods) (r : Delivered) (h h' b 
       go false e = kept (at (s .nodes) j .payload) (not-false (has awake j) (asleep j p ∙ e)) (st .held j p)
 
   delivered-stands : (y : Floods) → y ≡ heldFlood (r .holding) x
-      → Stands n y h' b (withNodes given s)
+      → Stands n y h' b₀ b (withNodes given s)
   delivered-stands y e =
-      subst⁻¹ (λ (z : Floods). Stands n z h' b (withNodes given s)) e
+      subst⁻¹ (λ (z : Floods). Stands n z h' b₀ b (withNodes given s)) e
       (record {
         listening = st .listening ∙ setOf-cong n (λ j p. ap listens (sym (same-state j p)));
         flooding = st .flooding ∙ setOf-cong n (λ j p. ap floods (sym (same-state j p)));
+        room = d .size ∙ st .room;
         held = held-after;
         holders = subst⁻¹ (λ (k : ℕ). k < 2 ^ 64) (d .holding) (lt-of-lt-of-le (setOf-lt n _) (pow-mono most));
         listens = st .listens ∙ sym (same-sum (λ (v : Node). v .«slots_listen») (λ v. refl));
@@ -284,12 +284,12 @@ module _ (n first : ℕ) (packet : Packet) (x : Floods) (r : Delivered) (h h' b 
   delivered-covered = d .covered ∙ count-cong n _ _ covered-by
 
 -- the same of what the code's end gave
-pub closes : (n first : ℕ) (packet : Packet) {key : List ℕ} {x y : Floods} {r : Delivered} {h h' b : List ℕ} {s : Standing} → n ≤ 64 → key ≡ numbersOf packet
+pub closes : (n first : ℕ) (packet : Packet) {key : List ℕ} {x y : Floods} {r : Delivered} {h h' b₀ b : List ℕ} {s : Standing} → n ≤ setBits → key ≡ packetNumbers packet
     → y ≡ heldFlood (r .holding) x
-    → Delivers n first key (bitOr (x .listening) (x .flooding)) (x .holding) h r h' → Stands n x h b s
-    → Stands n y h' b (withNodes (delivered n packet (s .nodes)) s)
+    → Delivers n first key (bitOr (x .listening) (x .flooding)) (x .holding) h r h' → Stands n x h b₀ b s
+    → Stands n y h' b₀ b (withNodes (delivered n packet (s .nodes)) s)
     × (r .part ≡ participants n first (delivered n packet (s .nodes)))
     × (r .covered ≡ coverage n packet (delivered n packet (s .nodes)))
-closes n first packet {key} {x} {y} {r} {h} {h'} {b} {s} most k e d st =
+closes n first packet {key} {x} {y} {r} {h} {h'} {b₀} {b} {s} most k e d st =
     let d' = subst (λ (m : List ℕ). Delivers n first m (bitOr (x .listening) (x .flooding)) (x .holding) h r h') k d in
-    (delivered-stands n first packet x r h h' b s most st d' y e, delivered-part n first packet x r h h' b s most st d', delivered-covered n first packet x r h h' b s most st d')
+    (delivered-stands n first packet x r h h' b₀ b s most st d' y e, delivered-part n first packet x r h h' b₀ b s most st d', delivered-covered n first packet x r h h' b₀ b s most st d')

@@ -1,29 +1,80 @@
--- Snapshots: where they are stored, and how many are due. Assumes nothing.
+-- Snapshots: where they are stored, and when they are due. Assumes nothing.
 use Prim.Native.Nat.{ℕ, zero, suc, _+_, _*_, _^_, _≤_, _<_}
-use mathlib.Core.Path.{_≡_, refl, sym, ap, subst, _∙_}
-use mathlib.Core.Bool.{Bool, true, false, cond}
-use mathlib.Core.List.{List, [], _∷_}
-use native.Mathlib.Nat.{suc-mul, zero-mul, le-mul-of-pos-right}
+use mathlib.Core.Path.{_≡_, refl, sym, ap, ap₂, subst, _∙_}
+use mathlib.Core.Bool.{true, false}
+use mathlib.Core.List.{List, [], _∷_, _++_, flatten, append-assoc, append-nil}
+use mathlib.Core.Logic.{⊎-elim}
+use native.Mathlib.Nat.{add-zero, suc-mul, zero-mul, le-mul-of-pos-right}
 use native.Mathlib.Numerals.{add-one, add-two, add-three, add-four}
 use native.Mathlib.Omega.{arith}
 use lib.Dec.{leb}
-use lib.ListN.{length, set}
-use lib.Seq.{sets}
+use lib.ListN.{length, set, take, length-append}
+use lib.Seq.{sets, length-sets, take-all, take-nil, take-append-le}
 use borrow.Author.Tests.{le-leb, lt-leb, leb-true, leb-false}
-use Rattle.phy.specs.Slot.{Shots, store, takeOne, takeWhile}
+use Rattle.config.specs.Limits.{snapshotSize}
+use Rattle.network.proofs.Sets.{two}
+use Rattle.phy.specs.Slot.{Shots, takeOne, takeWhile}
+use Rattle.phy.specs.Snapshots.{snapshotRoom, snapshotsWith}
+use Rattle.phy.specs.View.{Stores, Recorded}
 
+-- ---- where they are stored
 pub five-sets : (b : List ℕ) (i v w x y z : ℕ)
     → set (set (set (set (set b i v) (i + 1) w) (i + 2) x) (i + 3) y) (i + 4) z ≡ sets b i (v ∷ w ∷ x ∷ y ∷ z ∷ [])
 five-sets b i v w x y z = rw (add-one, add-two, add-three, add-four)
 
-pub store-fits : (b : List ℕ) (k : ℕ) (l : List ℕ) → 5 * k + 5 ≤ length b → store b k l ≡ sets b (5 * k) l
-unfolding store
-store-fits b k l h = ap (λ (t : Bool). cond t (sets b (5 * k) l) b) (le-leb (5 * k + 5) (length b) h)
+sets-append : (l : List ℕ) (i : ℕ) (xs ys : List ℕ) → sets l i (xs ++ ys) ≡ sets (sets l i xs) (i + length xs) ys
+sets-append l i [] ys = ap (λ (k : ℕ). sets l k ys) (sym (add-zero i))
+sets-append l i (x ∷ xs) ys = sets-append (set l i x) (suc i) xs ys ∙ ap (λ (k : ℕ). sets (sets (set l i x) (suc i) xs) k ys) (omega arith)
 
-pub store-full : (b : List ℕ) (k : ℕ) (l : List ℕ) → length b < 5 * k + 5 → store b k l ≡ b
-unfolding store
-store-full b k l h = ap (λ (t : Bool). cond t (sets b (5 * k) l) b) (lt-leb (5 * k + 5) (length b) h)
+flatten-append : (xs : List (List ℕ)) (y : List ℕ) → flatten (xs ++ (y ∷ [])) ≡ flatten xs ++ y
+unfolding flatten
+flatten-append [] y = append-nil y
+flatten-append (x ∷ xs) y = ap (λ (l : List ℕ). x ++ l) (flatten-append xs y) ∙ sym (append-assoc x (flatten xs) y)
 
+-- the buffer keeps its length
+pub length-with : (b : List ℕ) (shots : List (List ℕ)) → length (snapshotsWith b shots) ≡ length b
+unfolding snapshotsWith
+length-with b shots = length-sets b 0 (flatten (take (snapshotRoom b) shots))
+
+-- as a run begins
+pub recorded-none : (b : List ℕ) → Recorded 0 0 b b (record { next = 0; taken = [] })
+unfolding snapshotsWith flatten
+recorded-none b =
+    record { due = refl; counted = refl; stored = sym (ap (λ (l : List (List ℕ)). sets b 0 (flatten l)) (take-nil (snapshotRoom b))); whole = refl }
+
+-- one snapshot more
+module _ (b₀ : List ℕ) {b : List ℕ} (shots : List (List ℕ)) (shot : List ℕ) (five : length shot ≡ snapshotSize) (are : b ≡ snapshotsWith b₀ shots)
+    (whole : length (flatten shots) ≡ snapshotSize * length shots) where
+  pub whole-more : length (flatten (shots ++ (shot ∷ []))) ≡ snapshotSize * length (shots ++ (shot ∷ []))
+  whole-more = omega (arith, ap length (flatten-append shots shot), length-append (flatten shots) shot, length-append shots (shot ∷ []))
+
+  pub stored-more : {b' : List ℕ} → Stores (length shots) shot b b' → b' ≡ snapshotsWith b₀ (shots ++ (shot ∷ []))
+  unfolding snapshotsWith
+  stored-more {b'} s = ⊎-elim (λ e. stays e) (λ e. over e) (two (leb (snapshotSize * length shots + snapshotSize) (length b)))
+    where
+      last : List (List ℕ)
+      last = shot ∷ []
+
+      long : length b ≡ length b₀
+      long = ap length are ∙ length-with b₀ shots
+
+      stays : leb (snapshotSize * length shots + snapshotSize) (length b) ≡ true → b' ≡ sets b₀ 0 (flatten (take (snapshotRoom b₀) (shots ++ last)))
+      stays e =
+          let fits : snapshotSize * length shots + snapshotSize ≤ length b = leb-true _ _ e in
+          let at : 0 + length (flatten shots) ≡ snapshotSize * length shots = omega (arith, whole) in
+          let before : b ≡ sets b₀ 0 (flatten shots) = are ∙ ap (λ (l : List (List ℕ)). sets b₀ 0 (flatten l)) (take-all (snapshotRoom b₀) shots (omega (arith, fits, long))) in
+          s .fits fits
+          ∙ ap₂ (λ (l : List ℕ) (k : ℕ). sets l k shot) before (sym at)
+          ∙ sym (sets-append b₀ 0 (flatten shots) shot)
+          ∙ ap (sets b₀ 0) (sym (flatten-append shots shot))
+          ∙ ap (λ (l : List (List ℕ)). sets b₀ 0 (flatten l)) (sym (take-all (snapshotRoom b₀) (shots ++ last) (omega (arith, fits, long, length-append shots last))))
+
+      over : leb (snapshotSize * length shots + snapshotSize) (length b) ≡ false → b' ≡ sets b₀ 0 (flatten (take (snapshotRoom b₀) (shots ++ last)))
+      over e =
+          let full : length b < snapshotSize * length shots + snapshotSize = leb-false _ _ e in
+          s .full full ∙ are ∙ ap (λ (l : List (List ℕ)). sets b₀ 0 (flatten l)) (sym (take-append-le (snapshotRoom b₀) shots last (omega (arith, full, long))))
+
+-- ---- when they are due
 module _ (interval : ℕ) (shot : ℕ → List ℕ) (slot : ℕ) where
   pub none-due : (most : ℕ) (x : Shots) → slot < x .next → takeWhile interval shot slot most x ≡ x
   unfolding takeWhile
@@ -33,6 +84,20 @@ module _ (interval : ℕ) (shot : ℕ → List ℕ) (slot : ℕ) where
   pub one-due : (most : ℕ) (x : Shots) → x .next ≤ slot → takeWhile interval shot slot (suc most) x ≡ takeWhile interval shot slot most (takeOne interval shot x)
   unfolding takeWhile
   one-due most x h = rw (takeWhile, le-leb (x .next) slot h)
+
+-- one is taken, and the code stores it
+pub recorded-one : (interval : ℕ) (shot : ℕ → List ℕ) {next count : ℕ} {b₀ b b' : List ℕ} {x : Shots} → length (shot next) ≡ snapshotSize
+    → Recorded next count b₀ b x → Stores count (shot next) b b' → Recorded (next + interval) (count + 1) b₀ b' (takeOne interval shot x)
+unfolding takeOne
+recorded-one interval shot {next} {count} {b₀} {b} {b'} {x} five r s =
+    let five' : length (shot (x .next)) ≡ snapshotSize = subst (λ (k : ℕ). length (shot k) ≡ snapshotSize) (r .due) five in
+    let s' : Stores (length (x .taken)) (shot (x .next)) b b' = subst (λ (k : ℕ). Stores (length (x .taken)) (shot k) b b') (r .due) (subst (λ (k : ℕ). Stores k (shot next) b b') (r .counted) s) in
+    record {
+      due = ap (λ (k : ℕ). k + interval) (r .due);
+      counted = omega (arith, r .counted, length-append (x .taken) (shot (x .next) ∷ []));
+      stored = stored-more b₀ (x .taken) (shot (x .next)) five' (r .stored) (r .whole) s';
+      whole = whole-more b₀ (x .taken) (shot (x .next)) five' (r .stored) (r .whole);
+    }
 
 -- the next snapshot slot is a multiple of the interval, so it moves only where there is room
 pub next-fits : (count interval slot : ℕ) → count * interval ≤ slot → 1 ≤ interval → interval < 2 ^ 64 → slot < 2 ^ 62
@@ -45,22 +110,3 @@ next-fits (suc k) interval slot h p f s =
 
 pub one-more : (count interval : ℕ) → count * interval + interval ≡ (count + 1) * interval
 one-more count interval = sym (ap (λ (k : ℕ). k * interval) (add-one count) ∙ suc-mul count interval)
-
--- the snapshots taken are those at the multiples of the interval
-pub multiples : (interval : ℕ) (shot : ℕ → List ℕ) (slot most : ℕ) (x : Shots) → x .next ≡ x .count * interval
-    → takeWhile interval shot slot most x .next ≡ takeWhile interval shot slot most x .count * interval
-unfolding takeWhile
-multiples interval shot slot zero x e = e
-multiples interval shot slot (suc most) x e = go (multiples interval shot slot most (takeOne interval shot x)) (leb (x .next) slot) refl
-  where
-    again : Shots → Type 0
-    again y = takeWhile interval shot slot most y .next ≡ takeWhile interval shot slot most y .count * interval
-
-    go : (takeOne interval shot x .next ≡ takeOne interval shot x .count * interval → again (takeOne interval shot x)) → (b : Bool) → leb (x .next) slot ≡ b → takeWhile interval shot slot (suc most) x .next ≡ takeWhile interval shot slot (suc most) x .count * interval
-    go more true t =
-        let same = one-due interval shot slot most x (leb-true (x .next) slot t) in
-        subst (λ (y : Shots). y .next ≡ y .count * interval) (sym same)
-        (more (unfold takeOne in ap (λ (k : ℕ). k + interval) e ∙ one-more (x .count) interval))
-    go more false t =
-        let same = none-due interval shot slot (suc most) x (leb-false (x .next) slot t) in
-        subst (λ (y : Shots). y .next ≡ y .count * interval) (sym same) e

@@ -1,7 +1,7 @@
 -- The length limits that document 01 marks as proved, by computation. Assumes nothing.
 use mathlib.Core.Path.{_≡_, refl}
 use mathlib.Core.List.{[], _∷_}
-use Rattle.phy.specs.declared.ci.RoundSlots.{RoundSlots}
+use Rattle.config.specs.declared.RoundSlots.{RoundSlots}
 use Rattle.phy.specs.Round.{lengthLimit}
 
 -- diameter 0 and 1 repeat; diameter 31 and 64 repeats

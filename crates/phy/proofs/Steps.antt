@@ -1,7 +1,7 @@
 -- A slot, as the code keeps it: sets of nodes, a queue of sets for the repeats, and the slots of all nodes in each state. Assumes nothing.
 use Prim.Native.Nat.{ℕ, zero, suc, _+_, _-_, _*_, _^_, _≤_, _<_}
 use mathlib.Core.Path.{_≡_, refl, sym, ap, ap₂, subst, _∙_}
-use mathlib.Core.Bool.{Bool, true, false, not, cond, _&&_, _||_}
+use mathlib.Core.Bool.{Bool, true, false, not, cond, _&&_, _||_, and-false, or-false}
 use mathlib.Core.List.{List}
 use mathlib.Core.Logic.{_⊎_, inl, inr, ⊎-elim}
 use native.Mathlib.Nat.{mul-le-mul-right, eq-or-lt-of-le}
@@ -9,9 +9,10 @@ use native.Mathlib.Omega.{arith}
 use lib.Bits.{bitAnd, and-le-l, or-lt}
 use lib.Dec.{eqb}
 use lib.Count.{ones}
-use lib.ListN.{length, getD, set}
+use lib.ListN.{getD, set, length-set}
 use lib.Seq.{getD-set-same, getD-set-other}
 use borrow.Author.Tests.{eqb-true, eqb-false, eq-eqb, ne-eqb}
+use Rattle.config.specs.Limits.{maxNodes}
 use Rattle.network.specs.Graph.{has, setOf, count}
 use Rattle.network.proofs.Lowest.{has-minus}
 use Rattle.network.proofs.Sets.{two, never, same, has-or, has-setOf, setOf-lt}
@@ -23,11 +24,11 @@ use Rattle.phy.specs.declared.slot.Flood.{Flood as Floods}
 use Rattle.phy.specs.declared.slot.Settings.{Settings}
 use Rattle.phy.specs.declared.slot.Tried.{Tried}
 use Rattle.phy.specs.declared.snapshot.Shown.{Shown}
-use Rattle.phy.specs.declared.snapshot.Taken.{Taken}
-use Rattle.random.specs.Reception.{heard}
+use Rattle.phy.specs.declared.snapshot.Schedule.{Schedule}
+use Rattle.phy.specs.Limits.{mostSlots}
 use Rattle.phy.specs.Node.{tick, tickIn, transition, transitionIn, listens, floods, sleeps, isListening, isFlooding, isSleeping}
-use Rattle.phy.specs.Slot.{Setup, Shots, Standing, at, sumOf, ticked, moved, snapshot, receivers, attemptAll, triesIn, takeWhile, slotStep}
-use Rattle.phy.specs.View.{awakeAfter, placeAfter, Queued, Holding, Stands, setupOf, triesOf, shownOf, shotOf, shotsOf, shotsIn}
+use Rattle.phy.specs.Slot.{Setup, Shots, Standing, at, sumOf, ticked, moved, snapshot, attemptAll, triesIn, takeWhile, slotStep}
+use Rattle.phy.specs.View.{Tables, tables, asSetup, triesOf, receiversOf, shownOf, shotOf, Takes, awakeAfter, Advances, placeAfter, Queued, Holding, Stands, InSlot}
 use Rattle.phy.proofs.Nodes.{tick-state, at-ticked, at-moved, total-slot, ones-setOf, three-states}
 use Rattle.phy.proofs.Counts.{all-slots}
 use Rattle.phy.proofs.Masks.{has-and, set-is}
@@ -46,10 +47,6 @@ onward-is repeats heard v = ap (λ (st : NodeState). transitionIn st repeats hea
 pred-eqb : (r i : ℕ) → 1 ≤ r → eqb (r - 1) i ≡ eqb r (i + 1)
 pred-eqb r i h = same (λ e. eq-eqb r (i + 1) (omega (arith, eqb-true (r - 1) i e))) (λ e. eq-eqb (r - 1) i (omega (arith, eqb-true r (i + 1) e)))
 
-and-false : (b : Bool) → b && false ≡ false
-and-false true = refl
-and-false false = refl
-
 -- what follows for a node v whose state is st: it becomes w
 record Followed (st : NodeState) (repeats : ℕ) (heard : Bool) (v w : Node) : Type 0 where
   listening : isListening w ≡ listens st && not heard
@@ -61,6 +58,24 @@ record Followed (st : NodeState) (repeats : ℕ) (heard : Bool) (v w : Node) : T
   slots-listen : w .«slots_listen» ≡ v .«slots_listen» + cond (listens st) 1 0
   slots-flood : w .«slots_flood» ≡ v .«slots_flood» + cond (floods st) 1 0
   slots-sleep : w .«slots_sleep» ≡ v .«slots_sleep» + cond (sleeps st) 1 0
+
+-- a node that keeps its state, and does not flood
+stayed : (st : NodeState) (repeats : ℕ) (heard : Bool) (v w : Node) → w .state ≡ st → floods st ≡ false → listens st && heard ≡ false → listens st && not heard ≡ listens st
+    → w .payload ≡ v .payload → w .«slots_listen» ≡ v .«slots_listen» + cond (listens st) 1 0 → w .«slots_flood» ≡ v .«slots_flood» + 0 → w .«slots_sleep» ≡ v .«slots_sleep» + cond (sleeps st) 1 0
+    → Followed st repeats heard v w
+stayed st repeats heard v w e quiet deaf same-still pay l f z =
+    let silent : isFlooding w ≡ false = ap floods e ∙ quiet in
+    record {
+      listening = ap listens e ∙ sym same-still;
+      flooding = silent ∙ sym (ap₂ _||_ (ap (λ (b : Bool). b && not (eqb (v .«flood_remaining») 1)) quiet) deaf);
+      left = λ g. never g silent;
+      later = λ i b. ap (λ (c : Bool). c && eqb (w .«flood_remaining») (i + 1)) silent ∙ sym (ap (λ (c : Bool). c && eqb (v .«flood_remaining») (i + 1 + 1)) quiet);
+      newest = ap (λ (c : Bool). c && eqb (w .«flood_remaining») repeats) silent ∙ sym deaf;
+      payload = pay;
+      slots-listen = l;
+      slots-flood = f ∙ ap (λ (b : Bool). v .«slots_flood» + cond b 1 0) (sym quiet);
+      slots-sleep = z;
+    }
 
 followed : (st : NodeState) (repeats : ℕ) (heard : Bool) (v : Node) → v .state ≡ st → 1 ≤ repeats
     → (floods st ≡ true → (1 ≤ v .«flood_remaining») × (v .«flood_remaining» ≤ repeats))
@@ -77,34 +92,12 @@ followed Listen repeats true v e some are =
       slots-flood = omega arith;
       slots-sleep = omega arith;
     }
-followed Listen repeats false v e some are =
-    record {
-      listening = ap listens e;
-      flooding = ap floods e;
-      left = λ f. never f (ap floods e);
-      later = λ i l. ap (λ (b : Bool). b && eqb (v .«flood_remaining») (i + 1)) (ap floods e);
-      newest = ap (λ (b : Bool). b && eqb (v .«flood_remaining») repeats) (ap floods e);
-      payload = refl;
-      slots-listen = refl;
-      slots-flood = omega arith;
-      slots-sleep = omega arith;
-    }
-followed Sleep repeats heard v e some are =
-    record {
-      listening = ap listens e;
-      flooding = ap floods e;
-      left = λ f. never f (ap floods e);
-      later = λ i l. ap (λ (b : Bool). b && eqb (v .«flood_remaining») (i + 1)) (ap floods e);
-      newest = ap (λ (b : Bool). b && eqb (v .«flood_remaining») repeats) (ap floods e);
-      payload = refl;
-      slots-listen = omega arith;
-      slots-flood = omega arith;
-      slots-sleep = refl;
-    }
+followed Listen repeats false v e some are = stayed Listen repeats false v (tickIn Listen v) e refl refl refl refl refl (omega arith) (omega arith)
+followed Sleep repeats heard v e some are = stayed Sleep repeats heard v (tickIn Sleep v) e refl refl refl refl (omega arith) (omega arith) refl
 followed Flood repeats heard v e some are =
     record {
       listening = silent (eqb m 0);
-      flooding = goes-on (eqb m 0) ∙ ap not (pred-eqb (v .«flood_remaining») 0 (are refl .0)) ∙ or-false (not (eqb (v .«flood_remaining») 1));
+      flooding = goes-on (eqb m 0) ∙ ap not (pred-eqb (v .«flood_remaining») 0 (are refl .0)) ∙ sym (or-false (not (eqb (v .«flood_remaining») 1)));
       left = λ f. (positive m (two (eqb m 0)) f, omega (arith, are refl .1));
       later = λ i l. ap (λ (b : Bool). b && eqb m (i + 1)) (goes-on (eqb m 0)) ∙ again i (two (eqb m (i + 1))) ∙ pred-eqb (v .«flood_remaining») (i + 1) (are refl .0);
       newest = ap (λ (b : Bool). floods (cond (eqb m 0) Sleep Flood) && b) (ne-eqb m repeats (λ q. absurd (omega (arith, q, are refl .0, are refl .1)))) ∙ and-false (floods (cond (eqb m 0) Sleep Flood));
@@ -124,10 +117,6 @@ followed Flood repeats heard v e some are =
     goes-on : (b : Bool) → floods (cond b Sleep Flood) ≡ not b
     goes-on true = refl
     goes-on false = refl
-
-    or-false : (b : Bool) → b ≡ b || false
-    or-false true = refl
-    or-false false = refl
 
     positive : (k : ℕ) → (eqb k 0 ≡ true) ⊎ (eqb k 0 ≡ false) → floods (cond (eqb k 0) Sleep Flood) ≡ true → 1 ≤ k
     positive k (inl q) f = never f (ap (λ (b : Bool). floods (cond b Sleep Flood)) q)
@@ -204,10 +193,11 @@ module _ (n repeats reached : ℕ) (nodes : List Node) (x : Awake) (e : List ℕ
       own true z = refl
       own false z = refl
 
-  pub queued-now : p < length e → Queued n repeats (set e p hearers) (placeAfter repeats p 1) afterwards
-  queued-now room =
+  pub queued-now : Queued n repeats (set e p hearers) (placeAfter repeats p 1) afterwards
+  queued-now =
       record {
         place = place-lt repeats p 1 (q .place) (omega (arith, q .place));
+        room = omega (arith, q .room, length-set e p hearers);
         left = λ j b. step j b .left;
         stand = λ i j l b. ⊎-elim (λ w. newest-place i j b w) (λ w. later-place i j b w) (eq-or-lt-of-le l);
       }
@@ -216,7 +206,7 @@ module _ (n repeats reached : ℕ) (nodes : List Node) (x : Awake) (e : List ℕ
       newest-place i j b w =
           let all : i + 1 ≡ repeats = omega (arith, w) in
           ap (λ (k : ℕ). has (getD (set e p hearers) k 0) j) (place-last repeats p i (q .place) all)
-          ∙ ap (λ (s : ℕ). has s j) (getD-set-same e p hearers 0 room)
+          ∙ ap (λ (s : ℕ). has s j) (getD-set-same e p hearers 0 (omega (arith, q .place, q .room)))
           ∙ heard-bit j b
           ∙ sym (step j b .newest)
           ∙ ap (λ (k : ℕ). isFlooding (at afterwards j) && eqb (at afterwards j .«flood_remaining») k) (sym all)
@@ -242,15 +232,15 @@ module _ (n repeats reached : ℕ) (nodes : List Node) (x : Awake) (e : List ℕ
   sleeps-now = sum-more (λ (v : Node). v .«slots_sleep») nodes afterwards (λ (j : ℕ). isSleeping (at nodes j)) n (λ j b. step j b .slots-sleep)
 
 -- ---- the sums are nodes times slots, so that one slot more has room
-module _ (n : ℕ) {x : Floods} {h b : List ℕ} {s : Standing} {seen : Shown} {progress : ℕ} (few : n ≤ 32) (early : x .slot .0 < 2 ^ 40) (st : Stands n x h b s)
+module _ (n : ℕ) {x : Floods} {h b₀ b : List ℕ} {s : Standing} {seen : Shown} {progress : ℕ} (few : n ≤ maxNodes) (early : x .slot .0 < mostSlots) (st : Stands n x h b₀ b s)
     (seen-is : seen ≡ shownOf n progress (ones (x .listening)) (ones (x .flooding))) where
   sums : x .«slots_listen» + x .«slots_flood» + x .«slots_sleep» ≡ n * x .slot .0
   sums = omega (arith, st .listens, st .floods, st .sleeps, all-slots (s .nodes) n (x .slot .0) (λ j p. st .counted j p ∙ sym (st .slot)))
 
-  bounded : n * x .slot .0 ≤ 32 * x .slot .0
+  bounded : n * x .slot .0 ≤ maxNodes * x .slot .0
   bounded = mul-le-mul-right (x .slot .0) few
 
-  shown-few : (seen .listening ≤ 32) × (seen .flooding ≤ 32) × (seen .sleeping ≤ 32)
+  shown-few : (seen .listening ≤ maxNodes) × (seen .flooding ≤ maxNodes) × (seen .sleeping ≤ maxNodes)
   shown-few =
       let l : seen .listening ≡ ones (x .listening) = ap (λ (y : Shown). y .listening) seen-is in
       let f : seen .flooding ≡ ones (x .flooding) = ap (λ (y : Shown). y .flooding) seen-is in
@@ -262,18 +252,21 @@ module _ (n : ℕ) {x : Floods} {h b : List ℕ} {s : Standing} {seen : Shown} {
   few-slots = (omega (arith, sums, bounded, early, shown-few .0), omega (arith, sums, bounded, early, shown-few .1), omega (arith, sums, bounded, early, shown-few .2))
 
 -- ---- a whole slot: what its parts gave leads where the definitions lead
-module _ (g : Settings) (rows : List ℕ) (seed : ℕ) (x : Floods) (e : List ℕ) (p : ℕ) (h b b' : List ℕ) (s : Standing) (st : Stands (g .nodes) x h b s)
-    (q : Queued (g .nodes) (g .repeats) e p (s .nodes))
+module _ (g : Settings) (rows : List ℕ) (heard : ℕ → Bool) (p : ℕ) (x : Floods) (t : Tables) (h b₀ : List ℕ) (s : Standing) (here : InSlot g p x t h b₀ s)
     (seen : Shown) (seen-is : seen ≡ shownOf (g .nodes) (g .progress) (ones (x .listening)) (ones (x .flooding)))
+    (taken : Schedule) (b' : List ℕ)
+    (takes : Takes (g .interval) (x .slot .0) seen (record { next = record { 0 = x .«next_snapshot» .0 }; count = x .snapshots }) (t .snapshots) taken b')
     (tried : Tried)
-    (tried-is : triesOf tried ≡ attemptAll (heard (g .rate) seed) (record { attempts = x .attempts; successes = x .successes; reached = 0 }) (receivers rows (has (x .flooding)) (has (x .listening)) (g .nodes) (g .nodes)))
-    (r : Awake) (awake-is : r ≡ awakeAfter (getD e p 0) (tried .reached) (record { listening = x .listening; flooding = x .flooding }))
-    (taken : Taken) (taken-is : shotsOf taken b' ≡ takeWhile (g .interval) (shotOf seen) (x .slot .0) (suc (x .slot .0)) (shotsIn x b)) where
+    (tried-is : triesOf tried ≡ attemptAll heard (record { attempts = x .attempts; successes = x .successes; reached = 0 }) (receiversOf rows (g .nodes) (x .flooding) (x .listening)))
+    (r : Awake) (e' : List ℕ) (advances : Advances p (tried .reached) (record { listening = x .listening; flooding = x .flooding }) (t .queue) r e') where
   abbrev n : ℕ
   n = g .nodes
 
+  abbrev st : Stands n x h b₀ (t .snapshots) s
+  st = here .stands
+
   abbrev setup : Setup
-  setup = setupOf g rows seed
+  setup = asSetup g rows heard
 
   abbrev counted : List Node
   counted = ticked n (s .nodes)
@@ -287,12 +280,13 @@ module _ (g : Settings) (rows : List ℕ) (seed : ℕ) (x : Floods) (e : List �
       ∙ tries-are n (s .nodes) (x .listening) (x .flooding) (st .listening) (st .flooding) setup (x .attempts) (x .successes) refl
       ∙ ap₂ (triesIn setup counted) (st .attempts) (st .successes)
 
-  shots : shotsOf taken b' ≡ takeWhile (g .interval) (snapshot n (g .progress) counted) (s .slot) (suc (s .slot)) (s .shots)
-  shots =
-      taken-is
-      ∙ ap (λ (k : ℕ → List ℕ). takeWhile (g .interval) k (x .slot .0) (suc (x .slot .0)) (shotsIn x b))
-      (ap shotOf seen-is ∙ shot-is n (s .nodes) (x .listening) (x .flooding) (st .listening) (st .flooding) (g .progress))
-      ∙ ap₂ (λ (k : ℕ) (y : Shots). takeWhile (g .interval) (snapshot n (g .progress) counted) k (suc k) y) (st .slot) (st .shots)
+  abbrev shots : Shots
+  shots = takeWhile (g .interval) (shotOf seen) (x .slot .0) (suc (x .slot .0)) (s .shots)
+
+  same-shots : shots ≡ takeWhile (g .interval) (snapshot n (g .progress) counted) (s .slot) (suc (s .slot)) (s .shots)
+  same-shots =
+      ap₂ (λ (f : ℕ → List ℕ) (k : ℕ). takeWhile (g .interval) f k (suc k) (s .shots))
+      (ap shotOf seen-is ∙ shot-is n (s .nodes) (x .listening) (x .flooding) (st .listening) (st .flooding) (g .progress)) (st .slot)
 
   abbrev there : Standing
   there =
@@ -301,7 +295,7 @@ module _ (g : Settings) (rows : List ℕ) (seed : ℕ) (x : Floods) (e : List �
         attempts = tried .attempts;
         successes = tried .successes;
         slot = x .slot .0 + 1;
-        shots = shotsOf taken b';
+        shots = shots;
       }
 
   arrives : there ≡ slotStep setup s
@@ -313,7 +307,7 @@ module _ (g : Settings) (rows : List ℕ) (seed : ℕ) (x : Floods) (e : List �
         attempts = tries i .attempts;
         successes = tries i .successes;
         slot = st .slot i + 1;
-        shots = shots i;
+        shots = same-shots i;
       }
 
   listen-count : seen .listening ≡ count n (λ (j : ℕ). isListening (at (s .nodes) j))
@@ -329,9 +323,9 @@ module _ (g : Settings) (rows : List ℕ) (seed : ℕ) (x : Floods) (e : List �
       let f : ones (x .flooding) ≡ count n (λ (j : ℕ). isFlooding (at (s .nodes) j)) = ap ones (st .flooding) ∙ ones-setOf n _ in
       omega (arith, total, a, f, three-states n (s .nodes))
 
-  pub slot-stands :
-      Stands n
-      (record {
+  abbrev after : Floods
+  after =
+      record {
         listening = r .listening;
         flooding = r .flooding;
         holding = x .holding;
@@ -341,28 +335,33 @@ module _ (g : Settings) (rows : List ℕ) (seed : ℕ) (x : Floods) (e : List �
         attempts = tried .attempts;
         successes = tried .successes;
         slot = record { 0 = x .slot .0 + 1 };
-        «next_snapshot» = taken .next;
+        «next_snapshot» = record { 0 = taken .next .0 };
         snapshots = taken .count;
-      })
-      h b' (slotStep setup s)
-  slot-stands =
-      subst (Stands n _ h b') arrives
-      (record {
-        listening = ap (λ (y : Awake). y .listening) awake-is ∙ listening-now n (g .repeats) (tried .reached) (s .nodes) before e p (st .listening) (st .flooding) q;
-        flooding = ap (λ (y : Awake). y .flooding) awake-is ∙ flooding-now n (g .repeats) (tried .reached) (s .nodes) before e p (st .listening) (st .flooding) q;
-        held = λ j b. subst (Holding h (x .holding) j) (sym (payload-now n (g .repeats) (tried .reached) (s .nodes) before e p (st .listening) (st .flooding) q j b)) (st .held j b);
+      }
+
+  stands-there : Stands n after h b₀ b' there
+  stands-there =
+      record {
+        listening = ap (λ (y : Awake). y .listening) (advances .awake) ∙ listening-now n (g .repeats) (tried .reached) (s .nodes) before (t .queue) p (st .listening) (st .flooding) (here .queued);
+        flooding = ap (λ (y : Awake). y .flooding) (advances .awake) ∙ flooding-now n (g .repeats) (tried .reached) (s .nodes) before (t .queue) p (st .listening) (st .flooding) (here .queued);
+        room = st .room;
+        held = λ j b. subst (Holding h (x .holding) j) (sym (payload-now n (g .repeats) (tried .reached) (s .nodes) before (t .queue) p (st .listening) (st .flooding) (here .queued) j b)) (st .held j b);
         holders = st .holders;
-        listens = ap₂ _+_ (st .listens) listen-count ∙ sym (listens-now n (g .repeats) (tried .reached) (s .nodes) before e p (st .listening) (st .flooding) q);
-        floods = ap₂ _+_ (st .floods) flood-count ∙ sym (floods-now n (g .repeats) (tried .reached) (s .nodes) before e p (st .listening) (st .flooding) q);
-        sleeps = ap₂ _+_ (st .sleeps) sleep-count ∙ sym (sleeps-now n (g .repeats) (tried .reached) (s .nodes) before e p (st .listening) (st .flooding) q);
+        listens = ap₂ _+_ (st .listens) listen-count ∙ sym (listens-now n (g .repeats) (tried .reached) (s .nodes) before (t .queue) p (st .listening) (st .flooding) (here .queued));
+        floods = ap₂ _+_ (st .floods) flood-count ∙ sym (floods-now n (g .repeats) (tried .reached) (s .nodes) before (t .queue) p (st .listening) (st .flooding) (here .queued));
+        sleeps = ap₂ _+_ (st .sleeps) sleep-count ∙ sym (sleeps-now n (g .repeats) (tried .reached) (s .nodes) before (t .queue) p (st .listening) (st .flooding) (here .queued));
         counted = λ j p. total-slot n (g .repeats) (tried .reached) (s .nodes) j p ∙ ap (λ (k : ℕ). k + 1) (st .counted j p ∙ sym (st .slot));
         attempts = refl;
         successes = refl;
         slot = refl;
-        shots = refl;
-      })
+        shots = takes .recorded b₀ (s .shots) (st .shots);
+      }
 
-  pub slot-queued : p < length e → Queued n (g .repeats) (set e p (bitAnd (x .listening) (tried .reached))) (placeAfter (g .repeats) p 1) (slotStep setup s .nodes)
-  slot-queued room =
-      subst (λ (z : Standing). Queued n (g .repeats) (set e p (bitAnd (x .listening) (tried .reached))) (placeAfter (g .repeats) p 1) (z .nodes)) arrives
-      (queued-now n (g .repeats) (tried .reached) (s .nodes) before e p (st .listening) (st .flooding) q room)
+  pub slot-stands : (w : List ℕ) → InSlot g (placeAfter (g .repeats) p 1) after (tables e' w b') h b₀ (slotStep setup s)
+  slot-stands w =
+      subst (InSlot g (placeAfter (g .repeats) p 1) after (tables e' w b') h b₀) arrives
+      (record {
+        stands = stands-there;
+        queued = subst (λ (l : List ℕ). Queued n (g .repeats) l (placeAfter (g .repeats) p 1) (there .nodes)) (sym (advances .queue))
+            (queued-now n (g .repeats) (tried .reached) (s .nodes) before (t .queue) p (st .listening) (st .flooding) (here .queued));
+      })

@@ -7,7 +7,7 @@ use Rattle.random.specs.Table.{tabulate}
 use Rattle.network.specs.Graph.{setOf}
 use Rattle.phy.specs.declared.node.Node.{Node}
 use Rattle.phy.specs.declared.packet.Packet.{Packet}
-use Rattle.phy.specs.declared.ci.RoundSlots.{RoundSlots}
+use Rattle.config.specs.declared.RoundSlots.{RoundSlots}
 use Rattle.phy.specs.Packets.{holds}
 use Rattle.phy.specs.Node.{begunBy, deliveredTo, isFlooding, isSleeping}
 use Rattle.phy.specs.Slot.{Setup, Standing, at, howMany, slotStep}

@@ -1,10 +1,9 @@
 -- One slot of a flood (document 01, "One flood"). The nodes of a round are a list of n records.
-use Prim.Native.Nat.{ℕ, zero, suc, _+_, _*_, _^_}
+use Prim.Native.Nat.{ℕ, zero, suc, _+_, _^_}
 use mathlib.Core.Bool.{Bool, true, false, cond, _&&_}
 use mathlib.Core.List.{List, [], _∷_, _++_}
 use lib.Dec.{leb}
-use lib.ListN.{length, getD, set}
-use lib.Seq.{sets}
+use lib.ListN.{getD, set}
 use Rattle.random.specs.Table.{tabulate}
 use Rattle.network.specs.Graph.{has, linked, count}
 use Rattle.phy.specs.declared.node.Node.{Node}
@@ -71,20 +70,14 @@ unfoldable pub attemptAll : (ℕ → Bool) → Tries → List ℕ → Tries
 attemptAll heard t [] = t
 attemptAll heard t (j ∷ js) = attemptAll heard (attempt heard t j) js
 
--- the buffer with snapshot number k, if it fits whole
-unfoldable pub store : List ℕ → ℕ → List ℕ → List ℕ
-store buffer k five = cond (leb (5 * k + 5) (length buffer)) (sets buffer (5 * k) five) buffer
-
--- the next snapshot slot, the snapshots counted, and the buffer
+-- the slot of the next snapshot, and the snapshots taken in order, each as its five numbers
 pub record Shots : Type 0 where
   pub next : ℕ
-  pub count : ℕ
-  pub buffer : List ℕ
+  pub taken : List (List ℕ)
 
 -- one is taken, and the next moves by the interval
 unfoldable pub takeOne : ℕ → (ℕ → List ℕ) → Shots → Shots
-takeOne interval shot x =
-    record { next = x .next + interval; count = x .count + 1; buffer = store (x .buffer) (x .count) (shot (x .next)) }
+takeOne interval shot x = record { next = x .next + interval; taken = x .taken ++ (shot (x .next) ∷ []) }
 
 -- while the next snapshot slot is at most this slot, one is taken; at most `most` of them
 unfoldable pub takeWhile : ℕ → (ℕ → List ℕ) → ℕ → ℕ → Shots → Shots

@@ -1,38 +1,83 @@
 -- The values that the code's structs stand for, and what its functions promise of them.
-use Prim.Native.Nat.{ℕ, _+_, _-_, _*_, _^_, _≤_, _<_}
+use Prim.Native.Nat.{ℕ, suc, _+_, _-_, _*_, _^_, _≤_, _<_}
 use mathlib.Core.Bool.{Bool, true, false, not, cond, _&&_, _||_}
-use mathlib.Core.List.{List, [], _∷_}
+use mathlib.Core.List.{List, [], _∷_, flatten}
 use mathlib.Core.Path.{_≡_}
 use lib.Bits.{bitAnd, bitOr}
 use lib.Dec.{eqb, ltb}
-use lib.ListN.{length, getD}
+use lib.ListN.{length, getD, set}
+use lib.Seq.{sets}
 use lib.Ieee.{Float}
+use Rattle.config.specs.Limits.{maxNodes, maxRepeats, snapshotSize}
 use Rattle.network.specs.Graph.{has, setOf, count, all}
-use Rattle.random.specs.Reception.{heard, Ready}
+use Rattle.random.specs.Reception.{Source}
 use Rattle.phy.specs.declared.slot.Settings.{Settings}
 use Rattle.phy.specs.declared.slot.Tried.{Tried}
 use Rattle.phy.specs.declared.slot.Awake.{Awake}
 use Rattle.phy.specs.declared.slot.Flood.{Flood}
 use Rattle.phy.specs.declared.snapshot.Shown.{Shown}
-use Rattle.phy.specs.declared.snapshot.Taken.{Taken}
+use Rattle.phy.specs.declared.snapshot.Schedule.{Schedule}
 use Rattle.phy.specs.declared.ci.Delivered.{Delivered}
 use Rattle.phy.specs.declared.ci.Round.{Round}
 use Rattle.phy.specs.declared.packet.Packet.{Packet}
 use Rattle.phy.specs.declared.node.Node.{Node}
 use Rattle.phy.specs.declared.node.Payload.{Payload}
+use Rattle.phy.specs.Limits.{packetSize, heldSize, slotAttempts, mostSlots}
 use Rattle.phy.specs.Node.{total, isListening, isFlooding}
-use Rattle.phy.specs.Packets.{numbersOf}
-use Rattle.phy.specs.Slot.{Setup, Tries, Shots, Standing, at, insert, sumOf, attemptAll, slotStep}
+use Rattle.phy.specs.Packets.{packetNumbers}
+use Rattle.phy.specs.Slot.{Setup, Tries, Shots, Standing, at, insert, sumOf, receivers, attemptAll, takeWhile, slotStep}
+use Rattle.phy.specs.Snapshots.{snapshotsWith}
 use Rattle.phy.specs.Round.{slots as slotsOf, round}
 
--- the setup of a seed's run: an attempt's outcome is that of its draw
-abbrev pub setupOf : Settings → List ℕ → ℕ → Setup
-setupOf x rows seed =
-    record { rows = rows; nodes = x .nodes; repeats = x .repeats; interval = x .interval; progress = x .progress; heard = heard (x .rate) seed }
+-- ---- the lent tables
+-- what a slot is lent: the queue of the flooding nodes, the stream of the draws, and the buffer of the snapshots
+pub record Tables : Type 0 where
+  pub queue : List ℕ
+  pub stream : List ℕ
+  pub snapshots : List ℕ
+
+abbrev pub tables : List ℕ → List ℕ → List ℕ → Tables
+tables queue stream snapshots = record { queue = queue; stream = stream; snapshots = snapshots }
+
+-- what a round is lent: the packets held, too
+pub record Lent : Type 0 where
+  pub queue : List ℕ
+  pub stream : List ℕ
+  pub held : List ℕ
+  pub snapshots : List ℕ
+
+abbrev pub lent : List ℕ → List ℕ → List ℕ → List ℕ → Lent
+lent queue stream held snapshots = record { queue = queue; stream = stream; held = held; snapshots = snapshots }
+
+-- ---- attempts
+-- the setup of a run whose attempts have these outcomes
+abbrev pub asSetup : Settings → List ℕ → (ℕ → Bool) → Setup
+asSetup x rows heard =
+    record { rows = rows; nodes = x .nodes; repeats = x .repeats; interval = x .interval; progress = x .progress; heard = heard }
 
 abbrev pub triesOf : Tried → Tries
 triesOf t = record { attempts = t .attempts; successes = t .successes; reached = t .reached }
 
+-- r is t after attempts at the receivers js, of which there are at most k; the stream of the draws was w, and is w'
+pub record TriedOn (rate : Float) (k : ℕ) (js : List ℕ) (t : Tried) (w : List ℕ) (r : Tried) (w' : List ℕ) : Type 0 where
+  pub attempts : r .attempts ≤ t .attempts + k
+  pub successes : r .successes ≤ t .successes + k
+  pub tried : (heard : ℕ → Bool) → Source rate heard (t .attempts) w → triesOf r ≡ attemptAll heard (triesOf t) js
+  pub source : (heard : ℕ → Bool) → Source rate heard (t .attempts) w → Source rate heard (r .attempts) w'
+
+-- the receivers of the nodes of a set among those of another
+abbrev pub receiversOf : List ℕ → ℕ → ℕ → ℕ → List ℕ
+receiversOf rows n flooding listening = receivers rows (has flooding) (has listening) n n
+
+-- a slot's attempts have room in the counters
+pub record CanTry (n listening flooding : ℕ) (t : Tried) : Type 0 where
+  pub few : n ≤ maxNodes
+  pub listeners : listening < 2 ^ n
+  pub flooders : flooding < 2 ^ n
+  pub attempts : t .attempts + slotAttempts < 2 ^ 64
+  pub successes : t .successes + slotAttempts < 2 ^ 64
+
+-- ---- snapshots
 -- the five numbers of a snapshot of this slot
 abbrev pub shotOf : Shown → ℕ → List ℕ
 shotOf x slot = slot ∷ x .progress ∷ x .listening ∷ x .flooding ∷ x .sleeping ∷ []
@@ -41,17 +86,25 @@ abbrev pub shownOf : ℕ → ℕ → ℕ → ℕ → Shown
 shownOf n progress listening flooding =
     record { progress = progress; listening = listening; flooding = flooding; sleeping = n - listening - flooding }
 
-abbrev pub shotsOf : Taken → List ℕ → Shots
-shotsOf x buffer = record { next = x .next .0; count = x .count; buffer = buffer }
+-- a snapshot is stored after `count` others, if it fits whole
+pub record Stores (count : ℕ) (shot b b' : List ℕ) : Type 0 where
+  pub fits : snapshotSize * count + snapshotSize ≤ length b → b' ≡ sets b (snapshotSize * count) shot
+  pub full : length b < snapshotSize * count + snapshotSize → b' ≡ b
 
--- r is t after attempts at the receivers js, of which there are at most k; the words of the draws were w, and are w'
-pub record TriedOn (rate : Float) (k : ℕ) (js : List ℕ) (t : Tried) (w : List ℕ) (r : Tried) (w' : List ℕ) : Type 0 where
-  pub size : length w' ≡ length w
-  pub attempts : r .attempts ≤ t .attempts + k
-  pub successes : r .successes ≤ t .successes + k
-  pub tried : (seed : ℕ) → Ready rate seed (t .attempts) w
-      → (triesOf r ≡ attemptAll (heard rate seed) (triesOf t) js) × Ready rate seed (r .attempts) w'
+-- The slot of the next snapshot and the count are those of the definitions, and the buffer, b₀ as the run began, is b.
+pub record Recorded (next count : ℕ) (b₀ b : List ℕ) (x : Shots) : Type 0 where
+  pub due : next ≡ x .next
+  pub counted : count ≡ length (x .taken)
+  pub stored : b ≡ snapshotsWith b₀ (x .taken)
+  pub whole : length (flatten (x .taken)) ≡ snapshotSize * length (x .taken)
 
+-- the snapshots that are due by this slot are taken, those at the multiples of the interval
+pub record Takes (interval slot : ℕ) (seen : Shown) (y : Schedule) (b : List ℕ) (r : Schedule) (b' : List ℕ) : Type 0 where
+  pub multiple : r .next .0 ≡ r .count * interval
+  pub recorded : (b₀ : List ℕ) (x : Shots) → Recorded (y .next .0) (y .count) b₀ b x
+      → Recorded (r .next .0) (r .count) b₀ b' (takeWhile interval (shotOf seen) slot (suc slot) x)
+
+-- ---- a slot
 -- the nodes after a slot in which the nodes of a set heard, and after which the nodes of another have no repeats left
 abbrev pub awakeAfter : ℕ → ℕ → Awake → Awake
 awakeAfter done reached x =
@@ -60,6 +113,11 @@ awakeAfter done reached x =
       flooding = bitOr (x .flooding - bitAnd (x .flooding) done) (bitAnd (x .listening) reached);
     }
 
+-- the nodes at this place of the queue have no repeats left, and those that heard take their place
+pub record Advances (place reached : ℕ) (x : Awake) (e : List ℕ) (r : Awake) (e' : List ℕ) : Type 0 where
+  pub awake : r ≡ awakeAfter (getD e place 0) reached x
+  pub queue : e' ≡ set e place (bitAnd (x .listening) reached)
+
 -- the i-th place after p in a queue of so many places, whose first follows its last
 abbrev pub placeAfter : ℕ → ℕ → ℕ → ℕ
 placeAfter all p i = cond (ltb (p + i) all) (p + i) (p + i - all)
@@ -67,33 +125,20 @@ placeAfter all p i = cond (ltb (p + i) all) (p + i) (p + i - all)
 -- The queue of the flooding nodes, from place p on, has a place for each repeat: who floods and has i + 1 repeats left stands at the i-th.
 pub record Queued (n repeats : ℕ) (e : List ℕ) (p : ℕ) (nodes : List Node) : Type 0 where
   pub place : p < repeats
+  pub room : repeats ≤ length e
   pub left : (j : ℕ) → j < n → isFlooding (at nodes j) ≡ true → (1 ≤ at nodes j .«flood_remaining») × (at nodes j .«flood_remaining» ≤ repeats)
   pub stand : (i j : ℕ) → i < repeats → j < n → has (getD e (placeAfter repeats p i) 0) j ≡ isFlooding (at nodes j) && eqb (at nodes j .«flood_remaining») (i + 1)
 
--- node j is in the set of those that hold a packet, and its twelve places of h are that packet's numbers
+-- node j is in the set of those that hold a packet, and its places of h are that packet's numbers
 abbrev pub Holding : List ℕ → ℕ → ℕ → Payload → Type 0
 Holding h set j Payload.None = has set j ≡ false
-Holding h set j (Payload.Of p) = (has set j ≡ true) × ((k : ℕ) → k < 12 → getD h (12 * j + k) 0 ≡ getD (numbersOf p) k 0)
+Holding h set j (Payload.Of p) = (has set j ≡ true) × ((k : ℕ) → k < packetSize → getD h (packetSize * j + k) 0 ≡ getD (packetNumbers p) k 0)
 
-abbrev pub shotsIn : Flood → List ℕ → Shots
-shotsIn x b = record { next = x .«next_snapshot» .0; count = x .snapshots; buffer = b }
-
--- node i's places are those numbers in h', and no other node's places are other ones
-pub record Gave (i : ℕ) (packet h h' : List ℕ) : Type 0 where
-  pub size : length h' ≡ length h
-  pub given : (m : ℕ) → m < 12 → getD h' (12 * i + m) 0 ≡ getD packet m 0
-  pub others : (k m : ℕ) → (k ≡ i → ⊥) → m < 12 → getD h' (12 * k + m) 0 ≡ getD h (12 * k + m) 0
-
--- the places of the nodes of a set are those numbers in h', and no other node's places are other ones
-pub record GaveAll (set : ℕ) (packet h h' : List ℕ) : Type 0 where
-  pub size : length h' ≡ length h
-  pub given : (k : ℕ) → has set k ≡ true → (m : ℕ) → m < 12 → getD h' (12 * k + m) 0 ≡ getD packet m 0
-  pub others : (k : ℕ) → has set k ≡ false → (m : ℕ) → m < 12 → getD h' (12 * k + m) 0 ≡ getD h (12 * k + m) 0
-
--- The code stands at x, with the packets h held and the snapshot buffer b, where the definitions stand at s.
-pub record Stands (n : ℕ) (x : Flood) (h b : List ℕ) (s : Standing) : Type 0 where
+-- The code stands at x, with the packets h held and the snapshots b, where the definitions stand at s. As the run began the buffer was b₀.
+pub record Stands (n : ℕ) (x : Flood) (h b₀ b : List ℕ) (s : Standing) : Type 0 where
   pub listening : x .listening ≡ setOf n (λ (j : ℕ). isListening (at (s .nodes) j))
   pub flooding : x .flooding ≡ setOf n (λ (j : ℕ). isFlooding (at (s .nodes) j))
+  pub room : length h ≡ heldSize
   pub held : (j : ℕ) → j < n → Holding h (x .holding) j (at (s .nodes) j .payload)
   pub holders : x .holding < 2 ^ 64
   -- the slots of all nodes in each state
@@ -105,53 +150,65 @@ pub record Stands (n : ℕ) (x : Flood) (h b : List ℕ) (s : Standing) : Type 0
   pub attempts : x .attempts ≡ s .attempts
   pub successes : x .successes ≡ s .successes
   pub slot : x .slot .0 ≡ s .slot
-  pub shots : shotsIn x b ≡ s .shots
+  pub shots : Recorded (x .«next_snapshot» .0) (x .snapshots) b₀ b (s .shots)
 
--- the draws are ready for some seed, and the definitions stand somewhere, with the queue e from place p on
-pub record Meets (g : Settings) (x : Flood) (e : List ℕ) (p : ℕ) (w b : List ℕ) : Type 0 where
-  pub seed : ℕ
+-- so it stands in a slot, with the queue from place p on
+pub record InSlot (g : Settings) (p : ℕ) (x : Flood) (t : Tables) (h b₀ : List ℕ) (s : Standing) : Type 0 where
+  pub stands : Stands (g .nodes) x h b₀ (t .snapshots) s
+  pub queued : Queued (g .nodes) (g .repeats) (t .queue) p (s .nodes)
+
+-- the stream is a source of some outcomes, and the definitions stand somewhere
+pub record Meets (g : Settings) (p : ℕ) (x : Flood) (t : Tables) : Type 0 where
+  pub heard : ℕ → Bool
+  pub source : Source (g .rate) heard (x .attempts) (t .stream)
   pub packets : List ℕ
+  pub first : List ℕ
   pub standing : Standing
-  pub ready : Ready (g .rate) seed (x .attempts) w
-  pub stands : Stands (g .nodes) x packets b standing
-  pub queued : Queued (g .nodes) (g .repeats) e p (standing .nodes)
+  pub here : InSlot g p x t packets first standing
 
 -- What holds between slots: the counters have room, and the snapshots taken are those at the multiples of the interval.
 pub record Sound (g : Settings) (x : Flood) : Type 0 where
-  pub few : g .nodes ≤ 32
-  pub repeats : (1 ≤ g .repeats) × (g .repeats ≤ 64)
+  pub few : g .nodes ≤ maxNodes
+  pub repeats : (1 ≤ g .repeats) × (g .repeats ≤ maxRepeats)
   pub interval : 1 ≤ g .interval
-  pub attempts : x .attempts ≤ 2048 * x .slot .0
-  pub successes : x .successes ≤ 2048 * x .slot .0
+  pub attempts : x .attempts ≤ slotAttempts * x .slot .0
+  pub successes : x .successes ≤ slotAttempts * x .slot .0
   pub next : x .«next_snapshot» .0 ≡ x .snapshots * g .interval
 
--- From x, with the queue e from place p on, the draws' words w and the buffer b, the code came to r, e', w' and b' in one slot, and what
--- held between slots holds again; for each seed for which the draws are ready, it stands where the slot of the definitions leads.
-pub record Stepped (g : Settings) (rows : List ℕ) (p : ℕ) (x : Flood) (e w b : List ℕ) (r : Flood) (e' w' b' : List ℕ) : Type 0 where
+-- From x, with the queue from place p on, the code came to r in one slot, and what held between slots holds again. For all outcomes that
+-- the stream is a source of, it still is one, and the code stands where the slot of the definitions leads.
+pub record Stepped (g : Settings) (rows : List ℕ) (p : ℕ) (x : Flood) (t : Tables) (r : Flood) (t' : Tables) : Type 0 where
   pub sound : Sound g r
   pub slots : r .slot .0 ≡ x .slot .0 + 1
-  pub room : length e' ≡ length e
-  pub words : length w' ≡ length w
-  pub size : length b' ≡ length b
-  pub ready : (seed : ℕ) → Ready (g .rate) seed (x .attempts) w → Ready (g .rate) seed (r .attempts) w'
-  pub stands : (seed : ℕ) → Ready (g .rate) seed (x .attempts) w
-      → (h : List ℕ) (s : Standing) → Stands (g .nodes) x h b s → Queued (g .nodes) (g .repeats) e p (s .nodes)
-      → Stands (g .nodes) r h b' (slotStep (setupOf g rows seed) s)
-      × Queued (g .nodes) (g .repeats) e' (placeAfter (g .repeats) p 1) (slotStep (setupOf g rows seed) s .nodes)
+  pub source : (heard : ℕ → Bool) → Source (g .rate) heard (x .attempts) (t .stream) → Source (g .rate) heard (r .attempts) (t' .stream)
+  pub stands : (heard : ℕ → Bool) → Source (g .rate) heard (x .attempts) (t .stream)
+      → (h b₀ : List ℕ) (s : Standing) → InSlot g p x t h b₀ s
+      → InSlot g (placeAfter (g .repeats) p 1) r t' h b₀ (slotStep (asSetup g rows heard) s)
 
--- The same of the slots of a round, of which there are at most so many; the queue e begins at place 0.
-pub record Slotted (g : Settings) (rows : List ℕ) (limit : ℕ) (x : Flood) (e w b : List ℕ) (r : Flood) (e' w' b' : List ℕ) : Type 0 where
+-- The same of the slots of a round, of which there are at most so many; the queue begins at place 0.
+pub record Slotted (g : Settings) (rows : List ℕ) (limit : ℕ) (x : Flood) (t : Tables) (r : Flood) (t' : Tables) : Type 0 where
   pub sound : Sound g r
   pub slots : r .slot .0 ≤ x .slot .0 + limit
-  pub room : length e' ≡ length e
-  pub words : length w' ≡ length w
-  pub size : length b' ≡ length b
-  pub ready : (seed : ℕ) → Ready (g .rate) seed (x .attempts) w → Ready (g .rate) seed (r .attempts) w'
-  pub stands : (seed : ℕ) → Ready (g .rate) seed (x .attempts) w
-      → (h : List ℕ) (s : Standing) → Stands (g .nodes) x h b s → Queued (g .nodes) (g .repeats) e 0 (s .nodes)
-      → Stands (g .nodes) r h b' (slotsOf (setupOf g rows seed) limit s)
+  pub room : g .repeats ≤ length (t' .queue)
+  pub source : (heard : ℕ → Bool) → Source (g .rate) heard (x .attempts) (t .stream) → Source (g .rate) heard (r .attempts) (t' .stream)
+  pub stands : (heard : ℕ → Bool) → Source (g .rate) heard (x .attempts) (t .stream)
+      → (h b₀ : List ℕ) (s : Standing) → InSlot g 0 x t h b₀ s
+      → Stands (g .nodes) r h b₀ (t' .snapshots) (slotsOf (asSetup g rows heard) limit s)
 
--- a round begins: all nodes listen but the initiator
+-- ---- a round
+-- node i's places are those numbers in h', and no other node's places are other ones
+pub record Gave (i : ℕ) (packet h h' : List ℕ) : Type 0 where
+  pub size : length h' ≡ length h
+  pub given : (m : ℕ) → m < packetSize → getD h' (packetSize * i + m) 0 ≡ getD packet m 0
+  pub others : (k m : ℕ) → (k ≡ i → ⊥) → m < packetSize → getD h' (packetSize * k + m) 0 ≡ getD h (packetSize * k + m) 0
+
+-- the places of the nodes of a set are those numbers in h', and no other node's places are other ones
+pub record GaveAll (set : ℕ) (packet h h' : List ℕ) : Type 0 where
+  pub size : length h' ≡ length h
+  pub given : (k : ℕ) → has set k ≡ true → (m : ℕ) → m < packetSize → getD h' (packetSize * k + m) 0 ≡ getD packet m 0
+  pub others : (k : ℕ) → has set k ≡ false → (m : ℕ) → m < packetSize → getD h' (packetSize * k + m) 0 ≡ getD h (packetSize * k + m) 0
+
+-- all nodes listen but the initiator
 abbrev pub begunFlood : ℕ → ℕ → Flood → Flood
 begunFlood n first x =
     record {
@@ -168,6 +225,19 @@ begunFlood n first x =
       snapshots = x .snapshots;
     }
 
+-- what a round's begin is given
+pub record CanBegin (g : Settings) (first : ℕ) (h : List ℕ) : Type 0 where
+  pub few : g .nodes ≤ maxNodes
+  pub node : first < g .nodes
+  pub repeats : (1 ≤ g .repeats) × (g .repeats ≤ maxRepeats)
+  pub room : length h ≡ heldSize
+
+-- the initiator holds the packet, and stands at the last place of the queue
+pub record Begins (g : Settings) (first : ℕ) (packet : List ℕ) (x : Flood) (e h : List ℕ) (r : Flood) (e' h' : List ℕ) : Type 0 where
+  pub flood : r ≡ begunFlood (g .nodes) first x
+  pub queue : e' ≡ set e (g .repeats - 1) (2 ^ first)
+  pub held : Gave first packet h h'
+
 -- the first places of a queue are empty
 pub record Cleared (count : ℕ) (e e' : List ℕ) : Type 0 where
   pub size : length e' ≡ length e
@@ -175,7 +245,7 @@ pub record Cleared (count : ℕ) (e e' : List ℕ) : Type 0 where
 
 -- whether node k's places of h are these numbers
 abbrev pub sameNumbers : List ℕ → List ℕ → ℕ → Bool
-sameNumbers h packet k = all 12 (λ (m : ℕ). eqb (getD h (12 * k + m) 0) (getD packet m 0))
+sameNumbers h packet k = all packetSize (λ (m : ℕ). eqb (getD h (packetSize * k + m) 0) (getD packet m 0))
 
 -- the end of a round, at which the nodes that are not awake get the packet: who took part, how many are covered, who holds a packet, and
 -- the packets held
@@ -184,20 +254,30 @@ pub record Delivers (n first : ℕ) (packet : List ℕ) (awake before : ℕ) (h 
   pub covered : r .covered ≡ count n (λ (k : ℕ). not (has awake k) || (has before k && sameNumbers h packet k))
   pub holding : r .holding ≡ setOf n (λ (k : ℕ). not (has awake k) || has before k)
   pub size : length h' ≡ length h
-  pub given : (k : ℕ) → k < n → has awake k ≡ false → (m : ℕ) → m < 12 → getD h' (12 * k + m) 0 ≡ getD packet m 0
-  pub kept : (k : ℕ) → k < n → has awake k ≡ true → (m : ℕ) → m < 12 → getD h' (12 * k + m) 0 ≡ getD h (12 * k + m) 0
+  pub given : (k : ℕ) → k < n → has awake k ≡ false → (m : ℕ) → m < packetSize → getD h' (packetSize * k + m) 0 ≡ getD packet m 0
+  pub kept : (k : ℕ) → k < n → has awake k ≡ true → (m : ℕ) → m < packetSize → getD h' (packetSize * k + m) 0 ≡ getD h (packetSize * k + m) 0
 
--- The same of a whole round.
-pub record Rounded (g : Settings) (rows : List ℕ) (limit initiator : ℕ) (packet : Packet) (x : Flood) (e w h b : List ℕ) (r : Round) (e' w' h' b' : List ℕ) : Type 0 where
+-- what a round is given: the stream is a source of some outcomes, and the definitions stand somewhere
+pub record CanFlood (g : Settings) (limit initiator : ℕ) (x : Flood) (t : Lent) : Type 0 where
+  pub sound : Sound g x
+  pub node : initiator < g .nodes
+  pub early : x .slot .0 + limit < mostSlots
+  pub room : g .repeats ≤ length (t .queue)
+  pub heard : ℕ → Bool
+  pub source : Source (g .rate) heard (x .attempts) (t .stream)
+  pub first : List ℕ
+  pub standing : Standing
+  pub stands : Stands (g .nodes) x (t .held) first (t .snapshots) standing
+
+-- From x the code came to r in a round, of at most so many slots. For all outcomes that the stream is a source of, it still is one, and the
+-- code stands where the round of the definitions leads.
+pub record Rounded (g : Settings) (rows : List ℕ) (limit initiator : ℕ) (packet : Packet) (x : Flood) (t : Lent) (r : Round) (t' : Lent) : Type 0 where
   pub sound : Sound g (r .flood)
   pub slots : r .flood .slot .0 ≤ x .slot .0 + limit
-  pub room : length e' ≡ length e
-  pub words : length w' ≡ length w
-  pub held : length h' ≡ length h
-  pub size : length b' ≡ length b
-  pub ready : (seed : ℕ) → Ready (g .rate) seed (x .attempts) w → Ready (g .rate) seed (r .flood .attempts) w'
-  pub stands : (seed : ℕ) → Ready (g .rate) seed (x .attempts) w
-      → (s : Standing) → Stands (g .nodes) x h b s
-      → Stands (g .nodes) (r .flood) h' b' (round (setupOf g rows seed) limit initiator packet s .after)
-      × (r .part ≡ round (setupOf g rows seed) limit initiator packet s .part)
-      × (r .covered ≡ round (setupOf g rows seed) limit initiator packet s .covered)
+  pub room : g .repeats ≤ length (t' .queue)
+  pub source : (heard : ℕ → Bool) → Source (g .rate) heard (x .attempts) (t .stream) → Source (g .rate) heard (r .flood .attempts) (t' .stream)
+  pub stands : (heard : ℕ → Bool) → Source (g .rate) heard (x .attempts) (t .stream)
+      → (b₀ : List ℕ) (s : Standing) → Stands (g .nodes) x (t .held) b₀ (t .snapshots) s
+      → Stands (g .nodes) (r .flood) (t' .held) b₀ (t' .snapshots) (round (asSetup g rows heard) limit initiator packet s .after)
+      × (r .part ≡ round (asSetup g rows heard) limit initiator packet s .part)
+      × (r .covered ≡ round (asSetup g rows heard) limit initiator packet s .covered)

@@ -1,30 +1,31 @@
 // One flood by constructive interference, after the source's phy/ci.rs.
+use super::held::HELD_SIZE;
 use super::held::give;
 use super::held::give_all;
 use super::held::holders;
+use super::packet::PACKET_SIZE;
 use super::packet::Packet;
 use super::packet::numbers;
 use super::slot::Flood;
+use super::slot::QUEUE_SIZE;
 use super::slot::Settings;
 use super::slot::slot;
+use config::RoundSlots;
+use config::limits::MAX_NODES;
 use network::units::NodeId;
+use random::draws::STREAM_SIZE;
 ghost use mathlib.Core.Path.{_≡_};
-ghost use Prim.Native.Nat.{ℕ, _+_, _-_, _*_, _^_, _≤_, _<_};
-ghost use lib.ListN.{length, set};
-ghost use Rattle.random.specs.Reception.{Ready};
-ghost use Rattle.phy.specs.Slot.{Standing};
+ghost use Prim.Native.Nat.{_+_, _-_, _^_, _≤_, _<_};
+ghost use lib.ListN.{length};
+ghost use Rattle.config.specs.Limits.{maxNodes, maxRepeats};
+ghost use Rattle.phy.specs.Limits.{setBits, heldSize, queueSize, mostSlots};
 ghost use Rattle.phy.specs.Round.{lengthLimit};
-ghost use Rattle.phy.specs.View.{Gave, Sound, Stands, Meets, begunFlood, placeAfter, Cleared, Slotted, Delivers, Rounded};
-
-// The configured length of a round, or none.
-pub enum RoundSlots {
-    Absent,
-    Of(u64),
-}
+ghost use Rattle.phy.specs.View.{tables, lent, Sound, Meets, Slotted, placeAfter};
+ghost use Rattle.phy.specs.View.{CanBegin, Begins, Cleared, Delivers, CanFlood, Rounded};
 
 // How many slots a round has at most.
 pub fn length_limit(round_slots: RoundSlots, diameter: u64, repeats: u64) -> u64
-    requires { ⌜ (diameter ≤ 64) × (repeats ≤ 64) ⌝ }
+    requires { ⌜ (diameter ≤ setBits) × (repeats ≤ maxRepeats) ⌝ }
     ensures { λ r. ⌜ r ≡ lengthLimit «round_slots» diameter repeats ⌝ }
 {
     match round_slots {
@@ -51,26 +52,34 @@ struct Delivered {
     holding: u64,
 }
 
+// The set of the first n nodes.
+fn full_set(n: usize) -> u64
+    requires { ⌜ n < setBits ⌝ }
+    ensures { λ r. ⌜ r ≡ 2 ^ n - 1 ⌝ }
+{
+    (1u64 << n) - 1
+}
+
 // As a round begins, all nodes listen but the initiator, which floods and holds the packet. It stands
 // at the last place of the queue, with all its repeats.
 fn begin(
     settings: Settings,
     initiator: NodeId,
-    packet: [u64; 12],
+    packet: [u64; PACKET_SIZE],
     x: Flood,
-    ends: &mut [u64],
-    held: &mut [u64],
+    queue: &mut [u64; QUEUE_SIZE],
+    held: &mut [u64; HELD_SIZE],
 ) -> Flood
-    requires { ⌜ (settings .nodes ≤ 32) × (initiator .0 < settings .nodes) × (length packet ≡ 12) × (1 ≤ settings .repeats) × (settings .repeats ≤ length (now ends)) × (384 ≤ length (now held)) ⌝ }
-    ensures { λ r. ⌜ (r ≡ begunFlood (settings .nodes) (initiator .0) x) × (now (ends .exit) ≡ set (now (ends .entry)) (settings .repeats - 1) (2 ^ initiator .0)) × Gave (initiator .0) packet (now (held .entry)) (now (held .exit)) ⌝ }
+    requires { ⌜ CanBegin settings (initiator .0) (now held) ⌝ }
+    ensures { λ r. ⌜ Begins settings (initiator .0) packet x (now (queue .entry)) (now (held .entry)) r (now (queue .exit)) (now (held .exit)) ⌝ }
 {
     let first = initiator.0;
     let own = 1u64 << first;
     let last = settings.repeats as usize - 1;
-    ends[last] = own;
+    queue[last] = own;
     give(held, initiator, packet);
     let mut y = x;
-    y.listening = (1u64 << settings.nodes) - 1 - own;
+    y.listening = full_set(settings.nodes) - own;
     y.flooding = own;
     y.holding = x.holding | own;
     y
@@ -89,21 +98,23 @@ fn next_place(place: usize, repeats: u32) -> usize
 // The slots of a round, up to the limit or until nobody floods. The queue begins at place 0.
 fn slots(
     settings: Settings,
-    rows: &[u64; 32],
+    rows: &[u64; MAX_NODES],
     limit: u64,
     flood: Flood,
-    ends: &mut [u64],
-    words: &mut [u32],
-    buffer: &mut [u64],
+    queue: &mut [u64; QUEUE_SIZE],
+    stream: &mut [u32; STREAM_SIZE],
+    snapshots: &mut [u64],
 ) -> Flood
-    requires { ⌜ Sound settings flood × (flood .slot .0 + limit < 2 ^ 40) × (64 ≤ length (now ends)) × (24 ≤ length (now words)) × Meets settings flood (now ends) 0 (now words) (now buffer) ⌝ }
-    ensures { λ r. ⌜ Slotted settings (now (rows .entry)) limit flood (now (ends .entry)) (now (words .entry)) (now (buffer .entry)) r (now (ends .exit)) (now (words .exit)) (now (buffer .exit)) ⌝ }
+    requires { ⌜ Sound settings flood × (flood .slot .0 + limit < mostSlots) × Meets settings 0 flood (tables (now queue) (now stream) (now snapshots)) ⌝ }
+    ensures { λ r. ⌜ Slotted settings (now (rows .entry)) limit flood
+        (tables (now (queue .entry)) (now (stream .entry)) (now (snapshots .entry)))
+        r (tables (now (queue .exit)) (now (stream .exit)) (now (snapshots .exit))) ⌝ }
 {
     let mut x = flood;
     let mut more = limit;
     let mut place = 0usize;
     while 0 < more {
-        x = slot(settings, rows, x, ends, place, words, buffer);
+        x = slot(settings, rows, x, queue, place, stream, snapshots);
         more -= 1;
         if x.flooding == 0 {
             return x;
@@ -117,16 +128,16 @@ fn slots(
 fn deliver(
     n: usize,
     initiator: NodeId,
-    packet: [u64; 12],
+    packet: [u64; PACKET_SIZE],
     awake: u64,
     before: u64,
-    held: &mut [u64],
+    held: &mut [u64; HELD_SIZE],
 ) -> Delivered
-    requires { ⌜ (n ≤ 32) × (initiator .0 < n) × (length packet ≡ 12) × (384 ≤ length (now held)) ⌝ }
+    requires { ⌜ (n ≤ maxNodes) × (initiator .0 < n) × (length (now held) ≡ heldSize) ⌝ }
     ensures { λ r. ⌜ Delivers n (initiator .0) packet awake before (now (held .entry)) r (now (held .exit)) ⌝ }
 {
     let first = initiator.0;
-    let all = (1u64 << n) - 1;
+    let all = full_set(n);
     let asleep = all - (all & awake);
     let kept = all & before;
     let same = holders(held, kept & awake, packet);
@@ -138,36 +149,38 @@ fn deliver(
     }
 }
 
-// The first places of a queue are empty.
-fn clear(ends: &mut [u64], count: usize)
-    requires { ⌜ count ≤ length (now ends) ⌝ }
-    ensures { λ _. ⌜ Cleared count (now (ends .entry)) (now (ends .exit)) ⌝ }
+// The first places of the queue are empty.
+fn clear(queue: &mut [u64; QUEUE_SIZE], count: usize)
+    requires { ⌜ count ≤ queueSize ⌝ }
+    ensures { λ _. ⌜ Cleared count (now (queue .entry)) (now (queue .exit)) ⌝ }
 {
     for i in 0..count {
-        ends[i] = 0;
+        queue[i] = 0;
     }
 }
 
 // One round: a packet flooded by the initiator.
 pub fn flood_identical_round(
     settings: Settings,
-    rows: &[u64; 32],
+    rows: &[u64; MAX_NODES],
     limit: u64,
     initiator: NodeId,
     packet: Packet,
     flood: Flood,
-    ends: &mut [u64],
-    words: &mut [u32],
-    held: &mut [u64],
-    buffer: &mut [u64],
+    queue: &mut [u64; QUEUE_SIZE],
+    stream: &mut [u32; STREAM_SIZE],
+    held: &mut [u64; HELD_SIZE],
+    snapshots: &mut [u64],
 ) -> Round
-    requires { ⌜ Sound settings flood × (initiator .0 < settings .nodes) × (flood .slot .0 + limit < 2 ^ 40) × (64 ≤ length (now ends)) × (24 ≤ length (now words)) × (384 ≤ length (now held)) × ((seed : ℕ) × (s : Standing) × Ready (settings .rate) seed (flood .attempts) (now words) × Stands (settings .nodes) flood (now held) (now buffer) s) ⌝ }
-    ensures { λ r. ⌜ Rounded settings (now (rows .entry)) limit (initiator .0) packet flood (now (ends .entry)) (now (words .entry)) (now (held .entry)) (now (buffer .entry)) r (now (ends .exit)) (now (words .exit)) (now (held .exit)) (now (buffer .exit)) ⌝ }
+    requires { ⌜ CanFlood settings limit (initiator .0) flood (lent (now queue) (now stream) (now held) (now snapshots)) ⌝ }
+    ensures { λ r. ⌜ Rounded settings (now (rows .entry)) limit (initiator .0) packet flood
+        (lent (now (queue .entry)) (now (stream .entry)) (now (held .entry)) (now (snapshots .entry)))
+        r (lent (now (queue .exit)) (now (stream .exit)) (now (held .exit)) (now (snapshots .exit))) ⌝ }
 {
     let key = numbers(packet);
-    clear(ends, settings.repeats as usize);
-    let x = begin(settings, initiator, key, flood, ends, held);
-    let mut ended = slots(settings, rows, limit, x, ends, words, buffer);
+    clear(queue, settings.repeats as usize);
+    let x = begin(settings, initiator, key, flood, queue, held);
+    let mut ended = slots(settings, rows, limit, x, queue, stream, snapshots);
     let awake = ended.listening | ended.flooding;
     let done = deliver(settings.nodes, initiator, key, awake, ended.holding, held);
     ended.holding = done.holding;

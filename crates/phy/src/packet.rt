@@ -3,12 +3,18 @@
 use network::units::NodeId;
 use network::units::Term;
 ghost use mathlib.Core.Path.{_≡_};
-ghost use Rattle.phy.specs.Packets.{acceptedCase, acceptedTerm, dataCase, dataTerm, backCase, backTerm, backData, numbersOf};
+ghost use Rattle.phy.specs.Packets.{nackPart, acceptedPart, dataPart, backPart, backData, packetNumbers};
 
 // The last accepted term that a node knows of, or none.
 pub enum LastAccepted {
     None,
     At(Term),
+}
+
+// The term that is refused, or none.
+pub enum Nack {
+    None,
+    Of(Term),
 }
 
 // The data of a proposal: nothing, or the data of a term, which is `tx` and the term in decimal.
@@ -23,68 +29,68 @@ pub enum Piggyback {
     Of(Term, Data),
 }
 
-// `flags_bitmap` is a set of nodes: bit i stands for node i. A `nack_term` of 0 is none.
+// `flags_bitmap` is a set of nodes: bit i stands for node i.
 pub struct Packet {
     pub current_term: Term,
     pub last_accepted_term: LastAccepted,
     pub flags_bitmap: u64,
-    pub nack_term: Term,
+    pub nack_term: Nack,
     pub sender: NodeId,
     pub proposal_data: Data,
     pub piggyback: Piggyback,
 }
 
-fn accepted_case(a: LastAccepted) -> u64
-    ensures { λ r. ⌜ r ≡ acceptedCase a ⌝ }
+// A part of a packet that is none or a term, as two numbers: whether there is a term, and the term.
+struct Part {
+    given: u64,
+    term: u64,
+}
+
+fn nack_part(a: Nack) -> Part
+    ensures { λ r. ⌜ (r .given ≡ nackPart a .given) × (r .term ≡ nackPart a .term) ⌝ }
 {
     match a {
-        LastAccepted::None => 0,
-        LastAccepted::At(_) => 1,
+        Nack::None => Part { given: 0, term: 0 },
+        Nack::Of(t) => Part {
+            given: 1,
+            term: t.0,
+        },
     }
 }
 
-fn accepted_term(a: LastAccepted) -> u64
-    ensures { λ r. ⌜ r ≡ acceptedTerm a ⌝ }
+fn accepted_part(a: LastAccepted) -> Part
+    ensures { λ r. ⌜ (r .given ≡ acceptedPart a .given) × (r .term ≡ acceptedPart a .term) ⌝ }
 {
     match a {
-        LastAccepted::None => 0,
-        LastAccepted::At(t) => t.0,
+        LastAccepted::None => Part { given: 0, term: 0 },
+        LastAccepted::At(t) => Part {
+            given: 1,
+            term: t.0,
+        },
     }
 }
 
-fn data_case(d: Data) -> u64
-    ensures { λ r. ⌜ r ≡ dataCase d ⌝ }
+fn data_part(d: Data) -> Part
+    ensures { λ r. ⌜ (r .given ≡ dataPart d .given) × (r .term ≡ dataPart d .term) ⌝ }
 {
     match d {
-        Data::Empty => 0,
-        Data::Of(_) => 1,
+        Data::Empty => Part { given: 0, term: 0 },
+        Data::Of(t) => Part {
+            given: 1,
+            term: t.0,
+        },
     }
 }
 
-fn data_term(d: Data) -> u64
-    ensures { λ r. ⌜ r ≡ dataTerm d ⌝ }
-{
-    match d {
-        Data::Empty => 0,
-        Data::Of(t) => t.0,
-    }
-}
-
-fn back_case(b: Piggyback) -> u64
-    ensures { λ r. ⌜ r ≡ backCase b ⌝ }
+fn back_part(b: Piggyback) -> Part
+    ensures { λ r. ⌜ (r .given ≡ backPart b .given) × (r .term ≡ backPart b .term) ⌝ }
 {
     match b {
-        Piggyback::None => 0,
-        Piggyback::Of(_, _) => 1,
-    }
-}
-
-fn back_term(b: Piggyback) -> u64
-    ensures { λ r. ⌜ r ≡ backTerm b ⌝ }
-{
-    match b {
-        Piggyback::None => 0,
-        Piggyback::Of(t, _) => t.0,
+        Piggyback::None => Part { given: 0, term: 0 },
+        Piggyback::Of(t, _) => Part {
+            given: 1,
+            term: t.0,
+        },
     }
 }
 
@@ -97,28 +103,36 @@ fn back_data(b: Piggyback) -> Data
     }
 }
 
-// The packet as twelve numbers, by which two packets are equal exactly when all numbers are: of an
-// enum which case it is, and its term, 0 where there is none. The sender comes first, as it tells most
-// packets apart.
-pub fn numbers(p: Packet) -> [u64; 12]
-    ensures { λ r. ⌜ r ≡ numbersOf p ⌝ }
+// How many numbers a packet is.
+pub const PACKET_SIZE: usize = 13;
+
+// The packet as numbers, by which two packets are equal exactly when all numbers are. The sender comes
+// first, as it tells most packets apart.
+pub fn numbers(p: Packet) -> [u64; PACKET_SIZE]
+    ensures { λ r. ⌜ r ≡ packetNumbers p ⌝ }
 {
-    let last = p.last_accepted_term;
-    let data = p.proposal_data;
-    let back = p.piggyback;
-    let again = back_data(back);
+    let nack_term = p.nack_term;
+    let last_accepted = p.last_accepted_term;
+    let proposal = p.proposal_data;
+    let piggyback = p.piggyback;
+    let nack = nack_part(nack_term);
+    let last = accepted_part(last_accepted);
+    let own = data_part(proposal);
+    let back = back_part(piggyback);
+    let again = data_part(back_data(piggyback));
     [
         p.sender.0 as u64,
         p.current_term.0,
         p.flags_bitmap,
-        p.nack_term.0,
-        accepted_case(last),
-        accepted_term(last),
-        data_case(data),
-        data_term(data),
-        back_case(back),
-        back_term(back),
-        data_case(again),
-        data_term(again),
+        nack.given,
+        nack.term,
+        last.given,
+        last.term,
+        own.given,
+        own.term,
+        back.given,
+        back.term,
+        again.given,
+        again.term,
     ]
 }

@@ -1,19 +1,24 @@
 // One slot of a flood.
+use super::snapshot::Schedule;
 use super::snapshot::Shown;
-use super::snapshot::Taken;
 use super::snapshot::take_snapshots;
+use config::limits::MAX_NODES;
+use config::limits::MAX_REPEATS;
 use network::units::NodeId;
 use network::units::Slot;
+use random::draws::STREAM_SIZE;
 use random::reception::receive;
 ghost use mathlib.Core.Path.{_≡_};
 ghost use mathlib.Core.List.{[], _∷_};
 ghost use Prim.Native.Nat.{_+_, _*_, _^_, _≤_, _<_};
 ghost use lib.Count.{ones};
-ghost use lib.ListN.{length, getD, set};
-ghost use lib.Bits.{bitAnd};
 ghost use Rattle.network.specs.Graph.{has as hasNode};
-ghost use Rattle.phy.specs.Slot.{among, receivers};
-ghost use Rattle.phy.specs.View.{TriedOn, awakeAfter, Sound, Meets, Stepped, shownOf};
+ghost use Rattle.phy.specs.Limits.{setBits, queueSize, mostSlots};
+ghost use Rattle.phy.specs.Slot.{among};
+ghost use Rattle.phy.specs.View.{TriedOn, CanTry, receiversOf, Advances, tables, Sound, Meets, Stepped, shownOf};
+
+// The queue of the flooding nodes has a place for each repeat.
+pub const QUEUE_SIZE: usize = MAX_REPEATS as usize;
 
 // What a round is given: how many nodes there are, the repeats, the snapshot interval, the progress
 // that snapshots show, and the loss rate.
@@ -40,7 +45,7 @@ pub struct Tried {
 
 // Where a run stands in its floods: the sets of the nodes that listen, that flood and that hold a
 // packet, and the slots that all nodes have spent in each state. The packets held stand in a lent
-// slice, and so do the words that the draws come from.
+// table, and so does the stream of the draws.
 pub struct Flood {
     pub listening: u64,
     pub flooding: u64,
@@ -56,12 +61,12 @@ pub struct Flood {
 }
 
 // One attempt at node j.
-fn attempt(j: NodeId, rate: f64, words: &mut [u32], t: Tried) -> Tried
-    requires { ⌜ (j .0 < 64) × (t .attempts + 1 < 2 ^ 64) × (t .successes + 1 < 2 ^ 64) × (24 ≤ length (now words)) ⌝ }
-    ensures { λ r. ⌜ TriedOn rate 1 (j .0 ∷ []) t (now (words .entry)) r (now (words .exit)) ⌝ }
+fn attempt(j: NodeId, rate: f64, stream: &mut [u32; STREAM_SIZE], t: Tried) -> Tried
+    requires { ⌜ (j .0 < setBits) × (t .attempts + 1 < 2 ^ 64) × (t .successes + 1 < 2 ^ 64) ⌝ }
+    ensures { λ r. ⌜ TriedOn rate 1 (j .0 ∷ []) t (now (stream .entry)) r (now (stream .exit)) ⌝ }
 {
     let at = j.0;
-    if receive(rate, words, t.attempts) {
+    if receive(rate, stream, t.attempts) {
         return Tried {
             attempts: t.attempts + 1,
             successes: t.successes + 1,
@@ -76,15 +81,15 @@ fn attempt(j: NodeId, rate: f64, words: &mut [u32], t: Tried) -> Tried
 }
 
 // One attempt at each node of a set, ascending.
-fn attempts_at(set: u64, rate: f64, words: &mut [u32], t: Tried) -> Tried
-    requires { ⌜ (t .attempts + 64 < 2 ^ 64) × (t .successes + 64 < 2 ^ 64) × (24 ≤ length (now words)) ⌝ }
-    ensures { λ r. ⌜ TriedOn rate 64 (among 64 (hasNode «set»)) t (now (words .entry)) r (now (words .exit)) ⌝ }
+fn attempts_at(set: u64, rate: f64, stream: &mut [u32; STREAM_SIZE], t: Tried) -> Tried
+    requires { ⌜ (t .attempts + setBits < 2 ^ 64) × (t .successes + setBits < 2 ^ 64) ⌝ }
+    ensures { λ r. ⌜ TriedOn rate setBits (among setBits (hasNode «set»)) t (now (stream .entry)) r (now (stream .exit)) ⌝ }
 {
     let mut tried = t;
     let mut rest = set;
     while rest != 0 {
         let j = u64::trailing_zeros(rest) as usize;
-        tried = attempt(NodeId(j), rate, words, tried);
+        tried = attempt(NodeId(j), rate, stream, tried);
         rest = rest & (rest - 1);
     }
     tried
@@ -92,16 +97,16 @@ fn attempts_at(set: u64, rate: f64, words: &mut [u32], t: Tried) -> Tried
 
 // Each flooding node tries its listening neighbours.
 fn attempts(
-    rows: &[u64; 32],
+    rows: &[u64; MAX_NODES],
     n: usize,
     listening: u64,
     flooding: u64,
     rate: f64,
-    words: &mut [u32],
+    stream: &mut [u32; STREAM_SIZE],
     t: Tried,
 ) -> Tried
-    requires { ⌜ (n ≤ 32) × (listening < 2 ^ n) × (flooding < 2 ^ n) × (t .attempts + 2048 < 2 ^ 64) × (t .successes + 2048 < 2 ^ 64) × (24 ≤ length (now words)) ⌝ }
-    ensures { λ r. ⌜ TriedOn rate (64 * n) (receivers (now (rows .entry)) (hasNode flooding) (hasNode listening) n n) t (now (words .entry)) r (now (words .exit)) ⌝ }
+    requires { ⌜ CanTry n listening flooding t ⌝ }
+    ensures { λ r. ⌜ TriedOn rate (setBits * n) (receiversOf (now (rows .entry)) n flooding listening) t (now (stream .entry)) r (now (stream .exit)) ⌝ }
 {
     if listening == 0 {
         return t;
@@ -110,7 +115,7 @@ fn attempts(
     let mut rest = flooding;
     while rest != 0 {
         let i = u64::trailing_zeros(rest) as usize;
-        tried = attempts_at(rows[i] & listening, rate, words, tried);
+        tried = attempts_at(rows[i] & listening, rate, stream, tried);
         rest = rest & (rest - 1);
     }
     tried
@@ -118,13 +123,13 @@ fn attempts(
 
 // The nodes after a slot's transmissions, of which the nodes of a set heard one. The nodes at this
 // place of the queue have no repeats left, and the listeners that heard take their place.
-fn advance(ends: &mut [u64], place: usize, awake: Awake, reached: u64) -> Awake
-    requires { ⌜ place < length (now ends) ⌝ }
-    ensures { λ r. ⌜ (r ≡ awakeAfter (getD (now (ends .entry)) place 0) reached awake) × (now (ends .exit) ≡ set (now (ends .entry)) place (bitAnd (awake .listening) reached)) ⌝ }
+fn advance(queue: &mut [u64; QUEUE_SIZE], place: usize, awake: Awake, reached: u64) -> Awake
+    requires { ⌜ place < queueSize ⌝ }
+    ensures { λ r. ⌜ Advances place reached awake (now (queue .entry)) r (now (queue .exit)) ⌝ }
 {
     let heard = awake.listening & reached;
-    let done = awake.flooding & ends[place];
-    ends[place] = heard;
+    let done = awake.flooding & queue[place];
+    queue[place] = heard;
     Awake {
         listening: awake.listening - heard,
         flooding: (awake.flooding - done) | heard,
@@ -149,15 +154,17 @@ fn shown(n: usize, progress: u64, listening: u64, flooding: u64) -> Shown
 // One slot: snapshots, attempts, and what follows for each node.
 pub fn slot(
     settings: Settings,
-    rows: &[u64; 32],
+    rows: &[u64; MAX_NODES],
     x: Flood,
-    ends: &mut [u64],
+    queue: &mut [u64; QUEUE_SIZE],
     place: usize,
-    words: &mut [u32],
-    buffer: &mut [u64],
+    stream: &mut [u32; STREAM_SIZE],
+    snapshots: &mut [u64],
 ) -> Flood
-    requires { ⌜ Sound settings x × (x .slot .0 < 2 ^ 40) × (64 ≤ length (now ends)) × (24 ≤ length (now words)) × Meets settings x (now ends) place (now words) (now buffer) ⌝ }
-    ensures { λ r. ⌜ Stepped settings (now (rows .entry)) place x (now (ends .entry)) (now (words .entry)) (now (buffer .entry)) r (now (ends .exit)) (now (words .exit)) (now (buffer .exit)) ⌝ }
+    requires { ⌜ Sound settings x × (x .slot .0 < mostSlots) × Meets settings place x (tables (now queue) (now stream) (now snapshots)) ⌝ }
+    ensures { λ r. ⌜ Stepped settings (now (rows .entry)) place x
+        (tables (now (queue .entry)) (now (stream .entry)) (now (snapshots .entry)))
+        r (tables (now (queue .exit)) (now (stream .exit)) (now (snapshots .exit))) ⌝ }
 {
     let n = settings.nodes;
     let this = x.slot;
@@ -166,11 +173,11 @@ pub fn slot(
         this,
         settings.interval,
         seen,
-        Taken {
+        Schedule {
             next: Slot(x.next_snapshot.0),
             count: x.snapshots,
         },
-        buffer,
+        snapshots,
     );
     let tried = attempts(
         rows,
@@ -178,7 +185,7 @@ pub fn slot(
         x.listening,
         x.flooding,
         settings.rate,
-        words,
+        stream,
         Tried {
             attempts: x.attempts,
             successes: x.successes,
@@ -189,7 +196,7 @@ pub fn slot(
         listening: x.listening,
         flooding: x.flooding,
     };
-    let awake = advance(ends, place, before, tried.reached);
+    let awake = advance(queue, place, before, tried.reached);
     Flood {
         listening: awake.listening,
         flooding: awake.flooding,

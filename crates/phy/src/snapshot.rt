@@ -1,10 +1,10 @@
 // Snapshots: five numbers each, stored one after the other in a lent slice while they fit whole, and
 // counted beyond that.
+use config::limits::SNAPSHOT_SIZE;
 use network::units::Slot;
 ghost use mathlib.Core.Path.{_≡_};
-ghost use Prim.Native.Nat.{suc, _*_, _^_, _≤_, _<_};
-ghost use Rattle.phy.specs.Slot.{store, takeWhile};
-ghost use Rattle.phy.specs.View.{shotOf, shotsOf};
+ghost use Prim.Native.Nat.{_*_, _^_, _≤_, _<_};
+ghost use Rattle.phy.specs.View.{shotOf, Stores, Takes};
 
 // What a snapshot shows beside its slot: the progress, and how many nodes listen, flood and sleep.
 pub struct Shown {
@@ -15,23 +15,23 @@ pub struct Shown {
 }
 
 // The slot of the next snapshot, and how many were taken.
-pub struct Taken {
+pub struct Schedule {
     pub next: Slot,
     pub count: u64,
 }
 
 // Stores the snapshot of that number, if it fits whole.
-fn take_snapshot(slot: Slot, shown: Shown, count: u64, buffer: &mut [u64])
-    ensures { λ _. ⌜ now (buffer .exit) ≡ store (now (buffer .entry)) count (shotOf shown (slot .0)) ⌝ }
+fn take_snapshot(slot: Slot, shown: Shown, count: u64, snapshots: &mut [u64])
+    ensures { λ _. ⌜ Stores count (shotOf shown (slot .0)) (now (snapshots .entry)) (now (snapshots .exit)) ⌝ }
 {
-    let room = (buffer.len() / 5) as u64;
+    let room = (snapshots.len() / SNAPSHOT_SIZE) as u64;
     if count < room {
-        let at = 5 * (count as usize);
-        buffer[at] = slot.0;
-        buffer[at + 1] = shown.progress;
-        buffer[at + 2] = shown.listening;
-        buffer[at + 3] = shown.flooding;
-        buffer[at + 4] = shown.sleeping;
+        let at = SNAPSHOT_SIZE * (count as usize);
+        snapshots[at] = slot.0;
+        snapshots[at + 1] = shown.progress;
+        snapshots[at + 2] = shown.listening;
+        snapshots[at + 3] = shown.flooding;
+        snapshots[at + 4] = shown.sleeping;
     }
 }
 
@@ -40,21 +40,21 @@ pub fn take_snapshots(
     slot: Slot,
     interval: u64,
     shown: Shown,
-    taken: Taken,
-    buffer: &mut [u64],
-) -> Taken
-    requires { ⌜ (1 ≤ interval) × (slot .0 < 2 ^ 62) × (taken .next .0 ≡ taken .count * interval) ⌝ }
-    ensures { λ r. ⌜ shotsOf r (now (buffer .exit)) ≡ takeWhile interval (shotOf shown) (slot .0) (suc (slot .0)) (shotsOf taken (now (buffer .entry))) ⌝ }
+    schedule: Schedule,
+    snapshots: &mut [u64],
+) -> Schedule
+    requires { ⌜ (1 ≤ interval) × (slot .0 < 2 ^ 62) × (schedule .next .0 ≡ schedule .count * interval) ⌝ }
+    ensures { λ r. ⌜ Takes interval (slot .0) shown schedule (now (snapshots .entry)) r (now (snapshots .exit)) ⌝ }
 {
     let this = slot.0;
-    let mut next = taken.next.0;
-    let mut count = taken.count;
+    let mut next = schedule.next.0;
+    let mut count = schedule.count;
     while next <= this {
-        take_snapshot(Slot(next), shown, count, buffer);
+        take_snapshot(Slot(next), shown, count, snapshots);
         next += interval;
         count += 1;
     }
-    Taken {
+    Schedule {
         next: Slot(next),
         count,
     }

@@ -1,5 +1,5 @@
 -- The laws that several proofs and the crate above use.
---     Filing       records: one more, in the table and in the list
+--     Recordings   records: one more, in the history and in the list
 --     Sharing      what the nodes share between rounds
-pub mod Filing
+pub mod Recordings
 pub mod Sharing

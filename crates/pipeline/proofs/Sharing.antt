@@ -1,5 +1,5 @@
 -- What the nodes share between rounds: states by node, starts by term, and the terms that a commit answers. Assumes nothing.
-use Prim.Native.Nat.{ℕ, zero, suc, _+_, _*_, _≤_, _<_}
+use Prim.Native.Nat.{ℕ, zero, suc, _+_, _≤_, _<_}
 use mathlib.Core.Path.{_≡_, refl, sym, ap, ap₂, subst, _∙_}
 use mathlib.Core.Bool.{Bool, true, false, cond, not, _&&_}
 use mathlib.Core.List.{List, [], _∷_, _++_, append-nil}
@@ -12,13 +12,17 @@ use lib.Dec.{eqb, ltb}
 use lib.ListN.{length, getD, set, take, length-set, List·getD-eq-default}
 use lib.Seq.{take-suc-set, take-take, getD-take, getD-set-same, getD-set-other, length-take-le}
 use borrow.Author.Tests.{lt-ltb, le-ltb, ltb-true}
+use Rattle.config.specs.Limits.{maxTerms}
 use Rattle.network.specs.Graph.{has}
+use Rattle.network.specs.declared.units.Slot.{Slot}
 use Rattle.random.proofs.Tables.{length-tabulate, getD-tabulate, is-tabulate, tabulate-cong}
 use Rattle.phy.specs.Slot.{among}
 use Rattle.phy.specs.declared.packet.LastAccepted.{LastAccepted}
+use Rattle.phy.specs.declared.packet.Nack.{Nack}
 use Rattle.phy.specs.declared.packet.Packet.{Packet}
 use Rattle.phy.specs.declared.packet.Piggyback.{Piggyback}
 use Rattle.phy.proofs.Attempts.{among-cong, among-skip}
+use Rattle.protocol.specs.Layout.{firstOf}
 use Rattle.protocol.specs.Paxos.{Entry, State, empty, logged, quorum, greatestQuorum, newlyBelow, newlyTo, termSet}
 use Rattle.protocol.specs.Turns.{counted, propose, announce, initiatorTurn, participantTurn}
 use Rattle.protocol.specs.View.{view, loggedSet, entryAt, logOf, Kept, Wrote, lastBelow, backBelow}
@@ -26,9 +30,9 @@ use Rattle.protocol.proofs.Frame.{Same, wrote-same, wrote-same-before, frame-vi
 use Rattle.protocol.proofs.Commit.{newly-bit}
 use Rattle.protocol.proofs.Kept.{last-mono, kept-mono}
 use Rattle.pipeline.specs.declared.records.Recorded.{Recorded}
-use Rattle.pipeline.specs.Round.{Shared, recorded, stateOf, latest, onePiggyback, takeTurn, turns}
-use Rattle.pipeline.specs.View.{Filed, Files, Started, Starts, AllKept, Sharing, recordsOf, statesOf, withoutPiggyback}
-use Rattle.pipeline.specs.declared.shared.Shared.{Shared as Carried}
+use Rattle.pipeline.specs.Round.{Shared, recorded, stateOf, oneNack, latest, onePiggyback, takeTurn, turns}
+use Rattle.pipeline.specs.View.{Recording, Records, Started, Starts, AllKept, Sharing, TakesTurn, recordPlace, recordsOf, statesOf, sharedOf, withoutPiggyback}
+use Rattle.pipeline.specs.declared.carry.Carry.{Carry}
 
 pub counted-is : (b : Bool) (c : ℕ) → counted b c ≡ c + cond b 1 0
 counted-is true c = refl
@@ -42,12 +46,12 @@ same (suc k) (suc i) = ⊎-elim (λ p. inl (ap suc p)) (λ q. inr (λ p. q (omeg
 
 -- ---- states
 
-pub state-at : (n : ℕ) (b : List ℕ) (j : ℕ) → j < n → stateOf (statesOf n b) j ≡ view b (195 * j)
+pub state-at : (n : ℕ) (b : List ℕ) (j : ℕ) → j < n → stateOf (statesOf n b) j ≡ view b (firstOf j)
 unfolding statesOf
-state-at n b j h = getD-tabulate n (λ (k : ℕ). view b (195 * k)) j empty h
+state-at n b j h = getD-tabulate n (λ (k : ℕ). view b (firstOf k)) j empty h
 
 -- a node's places are not those of another
-untouched : {b b' : List ℕ} (j k : ℕ) → Wrote (195 * j) b b' → (k ≡ j → ⊥) → Same (195 * k) b b'
+untouched : {b b' : List ℕ} (j k : ℕ) → Wrote (firstOf j) b b' → (k ≡ j → ⊥) → Same (firstOf k) b b'
 untouched {b} {b'} j k w ne =
     ⊎-elim (λ e. absurd (ne e)) (λ _. ⊎-elim (λ h. wrote-same-before w (omega (arith, h))) (λ h. wrote-same w (omega (arith, h))) (apart j k ne)) (same k j)
   where
@@ -57,21 +61,21 @@ untouched {b} {b'} j k w ne =
     apart (suc j) zero q = inl (omega arith)
     apart (suc j) (suc k) q = ⊎-elim (λ h. inl (omega (arith, h))) (λ h. inr (omega (arith, h))) (apart j k (λ p. q (ap suc p)))
 
-pub states-set : {c : ℕ} (n : ℕ) (b b' : List ℕ) (j : ℕ) (v : State) → AllKept c n b → j < n → Wrote (195 * j) b b' → view b' (195 * j) ≡ v
+pub states-set : {c : ℕ} (n : ℕ) (b b' : List ℕ) (j : ℕ) (v : State) → AllKept c n b → j < n → Wrote (firstOf j) b b' → view b' (firstOf j) ≡ v
     → statesOf n b' ≡ set (statesOf n b) j v
 unfolding statesOf
 states-set n b b' j v a h w e =
-    sym (is-tabulate n (λ (k : ℕ). view b' (195 * k)) empty (set (statesOf n b) j v) (length-set (statesOf n b) j v ∙ length-tabulate n (λ (k : ℕ). view b (195 * k)))
+    sym (is-tabulate n (λ (k : ℕ). view b' (firstOf k)) empty (set (statesOf n b) j v) (length-set (statesOf n b) j v ∙ length-tabulate n (λ (k : ℕ). view b (firstOf k)))
     (λ k l. ⊎-elim (λ q. here k q) (λ q. there k l q) (same k j)))
   where
-    here : (k : ℕ) → k ≡ j → getD (set (statesOf n b) j v) k empty ≡ view b' (195 * k)
+    here : (k : ℕ) → k ≡ j → getD (set (statesOf n b) j v) k empty ≡ view b' (firstOf k)
     here k q =
         ap (λ (m : ℕ). getD (set (statesOf n b) j v) m empty) q
-        ∙ getD-set-same (statesOf n b) j v empty (omega (arith, length-tabulate n (λ (m : ℕ). view b (195 * m))))
+        ∙ getD-set-same (statesOf n b) j v empty (omega (arith, length-tabulate n (λ (m : ℕ). view b (firstOf m))))
         ∙ sym e
-        ∙ ap (λ (m : ℕ). view b' (195 * m)) (sym q)
+        ∙ ap (λ (m : ℕ). view b' (firstOf m)) (sym q)
 
-    there : (k : ℕ) → k < n → (k ≡ j → ⊥) → getD (set (statesOf n b) j v) k empty ≡ view b' (195 * k)
+    there : (k : ℕ) → k < n → (k ≡ j → ⊥) → getD (set (statesOf n b) j v) k empty ≡ view b' (firstOf k)
     there k l q =
         getD-set-other (statesOf n b) j k v empty q
         ∙ state-at n b k l
@@ -85,11 +89,11 @@ side zero (suc c) = inl (omega arith)
 side (suc t) (suc c) = ⊎-elim (λ h. inl (omega (arith, h))) (λ h. inr (omega (arith, h))) (side t c)
 
 -- a start is that of the proposals made, and 0 for a term that is none
-pub start-at : {c : ℕ} {l : List ℕ} → Started c l → c ≤ 64 → (t : ℕ) → getD (take 64 l) t 0 ≡ getD (take c l) t 0
+pub start-at : {c : ℕ} {l : List ℕ} → Started c l → c ≤ maxTerms → (t : ℕ) → getD (take maxTerms l) t 0 ≡ getD (take c l) t 0
 start-at {c} {l} s few t =
     ⊎-elim
-    (λ h. getD-take 64 l t 0 (omega arith) ∙ sym (getD-take c l t 0 h))
-    (λ h. ⊎-elim (λ w. getD-take 64 l t 0 w ∙ s .unused t h w) (λ w. List·getD-eq-default (take 64 l) 0 (omega (arith, length-take-le 64 l (omega (arith, s .room))))) (side t 64)
+    (λ h. getD-take maxTerms l t 0 (omega arith) ∙ sym (getD-take c l t 0 h))
+    (λ h. ⊎-elim (λ w. getD-take maxTerms l t 0 w ∙ s .unused t h w) (λ w. List·getD-eq-default (take maxTerms l) 0 (omega (arith, length-take-le maxTerms l (omega (arith, s .room))))) (side t maxTerms)
     ∙ sym (List·getD-eq-default (take c l) 0 (omega (arith, length-take-le c l (omega (arith, s .room))))))
     (side t c)
 
@@ -125,28 +129,28 @@ newly-has k t l = ap (λ (x : ℕ). eqb x 1) (newly-bit k t l) ∙ go (ltb t k) 
     go false b = refl
 
 -- so the list is the set's
-newly-list : (k : ℕ) (l : List Entry) → k ≤ 64 → among 64 (has (termSet (newlyBelow k l))) ≡ newlyBelow k l
+newly-list : (k : ℕ) (l : List Entry) → k ≤ maxTerms → among maxTerms (has (termSet (newlyBelow k l))) ≡ newlyBelow k l
 newly-list k l h =
-    among-skip k 64 (has (termSet (newlyBelow k l))) h (λ i b _. newly-has k i l ∙ ap (λ (x : Bool). x && not (logged i l)) (le-ltb i k b))
+    among-skip k maxTerms (has (termSet (newlyBelow k l))) h (λ i b _. newly-has k i l ∙ ap (λ (x : Bool). x && not (logged i l)) (le-ltb i k b))
     ∙ among-cong k (has (termSet (newlyBelow k l))) (λ (t : ℕ). not (logged t l)) (λ t b. newly-has k t l ∙ ap (λ (x : Bool). x && not (logged t l)) (lt-ltb t k b))
     ∙ sym (newly-is k l)
 
-pub newly-among : (last : LastAccepted) (l : List Entry) → lastBelow 64 last → among 64 (has (termSet (newlyTo last l))) ≡ newlyTo last l
+pub newly-among : (last : LastAccepted) (l : List Entry) → lastBelow maxTerms last → among maxTerms (has (termSet (newlyTo last l))) ≡ newlyTo last l
 unfolding newlyTo newlyBelow
 newly-among LastAccepted.None l h = newly-list 0 l (omega arith)
 newly-among (LastAccepted.At u) l h = newly-list (suc (u .0)) l h
 
-pub initiator-newly : (i n c : ℕ) (b : Bool) (pb : Piggyback) (s : State) → among 64 (has (termSet (initiatorTurn i n c b pb s .newly))) ≡ initiatorTurn i n c b pb s .newly
+pub initiator-newly : (i n c : ℕ) (b : Bool) (pb : Piggyback) (s : State) → among maxTerms (has (termSet (initiatorTurn i n c b pb s .newly))) ≡ initiatorTurn i n c b pb s .newly
 unfolding initiatorTurn announce
-initiator-newly i n c b pb s = newly-among (greatestQuorum 64 n (propose b i c s)) (propose b i c s .log) (greatest-below 64 n (propose b i c s))
+initiator-newly i n c b pb s = newly-among (greatestQuorum maxTerms n (propose b i c s)) (propose b i c s .log) (greatest-below maxTerms n (propose b i c s))
 
-pub participant-newly : (i : ℕ) (p : Packet) (s : State) → lastBelow 64 (p .«last_accepted_term») → among 64 (has (termSet (participantTurn i p s .newly))) ≡ participantTurn i p s .newly
+pub participant-newly : (i : ℕ) (p : Packet) (s : State) → lastBelow maxTerms (p .«last_accepted_term») → among maxTerms (has (termSet (participantTurn i p s .newly))) ≡ participantTurn i p s .newly
 unfolding participantTurn
 participant-newly i p s h = newly-among (p .«last_accepted_term») (s .log) h
 
 -- ---- one start more
 
-pub starts-one : (c v : ℕ) (l : List ℕ) → Started c l → c < 64 → Starts c true v l (set l c v)
+pub starts-one : (c v : ℕ) (l : List ℕ) → Started c l → c < maxTerms → Starts c true v l (set l c v)
 starts-one c v l s h =
     record {
       started = record { room = length-set l c v ∙ s .room; unused = λ t b w. getD-set-other l c t v 0 (λ p. omega (arith, p)) ∙ s .unused t (omega arith) w };
@@ -166,11 +170,11 @@ starts-none c v l s =
 pub starts-records : {c slot : ℕ} {p : Bool} {l l' : List ℕ} (m : ℕ) → Starts c p slot l l' → recordsOf m l' ≡ recordsOf m l
 unfolding recordsOf
 starts-records {c} {slot} {p} {l} {l'} m s =
-    tabulate-cong m _ _ (λ k h. λ i. record { id = s .records (64 + 3 * k) (omega arith) i; start = s .records (64 + 3 * k + 1) (omega arith) i; end = s .records (64 + 3 * k + 2) (omega arith) i })
+    tabulate-cong m _ _ (λ k h. λ i. record { id = s .records (recordPlace k) (omega arith) i; start = s .records (recordPlace k + 1) (omega arith) i; end = s .records (recordPlace k + 2) (omega arith) i })
 
-pub starts-filed : {c slot : ℕ} {p : Bool} {l l' : List ℕ} (x : Recorded) → Starts c p slot l l' → Filed x l → Filed x l'
+pub starts-recording : {c slot : ℕ} {p : Bool} {l l' : List ℕ} (x : Recorded) → Starts c p slot l l' → Recording x l → Recording x l'
 unfolding recordsOf
-starts-filed {c} {slot} {p} {l} {l'} x s d =
+starts-recording {c} {slot} {p} {l} {l'} x s d =
     record {
       room = s .started .room;
       few = d .few;
@@ -178,14 +182,14 @@ starts-filed {c} {slot} {p} {l} {l'} x s d =
     }
 
 -- what is recorded leaves the starts
-pub starts-same : {end : ℕ} {ts : List ℕ} {x y : Recorded} {l l' : List ℕ} → Files end ts x l y l' → (k m : ℕ) → k ≡ m → m ≤ 64 → take k l' ≡ take m l
-starts-same {l = l} {l' = l'} f k m e h = ap (λ (c : ℕ). take c l') e ∙ sym (take-take m 64 l' h) ∙ ap (take m) (f .starts) ∙ take-take m 64 l h
+pub starts-same : {end : ℕ} {ts : List ℕ} {x y : Recorded} {l l' : List ℕ} → Records end ts x l y l' → (k m : ℕ) → k ≡ m → m ≤ maxTerms → take k l' ≡ take m l
+starts-same {l = l} {l' = l'} f k m e h = ap (λ (c : ℕ). take c l') e ∙ sym (take-take m maxTerms l' h) ∙ ap (take m) (f .starts) ∙ take-take m maxTerms l h
 
-pub started-same : {end c : ℕ} {ts : List ℕ} {x y : Recorded} {l l' : List ℕ} → Files end ts x l y l' → Started c l → Started c l'
+pub started-same : {end c : ℕ} {ts : List ℕ} {x y : Recorded} {l l' : List ℕ} → Records end ts x l y l' → Started c l → Started c l'
 started-same {l = l} {l' = l'} f s =
     record {
-      room = f .filed .room;
-      unused = λ k b w. sym (getD-take 64 l' k 0 w) ∙ ap (λ (m : List ℕ). getD m k 0) (f .starts) ∙ getD-take 64 l k 0 w ∙ s .unused k b w;
+      room = f .recording .room;
+      unused = λ k b w. sym (getD-take maxTerms l' k 0 w) ∙ ap (λ (m : List ℕ). getD m k 0) (f .starts) ∙ getD-take maxTerms l k 0 w ∙ s .unused k b w;
     }
 
 -- the same at another name of the counter
@@ -197,25 +201,25 @@ kept-as {b} {at} e = subst (λ (k : ℕ). Kept k b at) e
 
 -- ---- all states kept
 
-pub kept-set : {c d n : ℕ} {b b' : List ℕ} (j : ℕ) → AllKept c n b → c ≤ d → d ≤ 64 → Wrote (195 * j) b b' → Kept d b' (195 * j) → AllKept d n b'
+pub kept-set : {c d n : ℕ} {b b' : List ℕ} (j : ℕ) → AllKept c n b → c ≤ d → d ≤ maxTerms → Wrote (firstOf j) b b' → Kept d b' (firstOf j) → AllKept d n b'
 kept-set {c} {d} {n} {b} {b'} j a up most w k =
     record {
       room = w .size ∙ a .room;
       each = λ i h. ⊎-elim
-          (λ e. subst (λ (m : ℕ). Kept d b' (195 * m)) (sym e) k)
+          (λ e. subst (λ (m : ℕ). Kept d b' (firstOf m)) (sym e) k)
           (λ q. kept-mono up most (frame-kept (untouched j i w q) (a .each i h)))
           (same i j);
     }
 
-pub at-most-one : (b : Bool) → cond b 1 0 ≤ 1
-at-most-one true = omega arith
-at-most-one false = omega arith
+pub nack-at-most : (n : Nack) → oneNack n ≤ 1
+nack-at-most Nack.None = omega arith
+nack-at-most (Nack.Of t) = omega arith
 
--- a proposal is made only below P, so 64 terms have room
-pub proposing : (c p : ℕ) → c ≤ 64 → p ≤ 64 → c + cond (ltb c p) 1 0 ≤ 64
+-- a proposal is made only below P, so there is room for its term
+pub proposing : (c p : ℕ) → c ≤ maxTerms → p ≤ maxTerms → c + cond (ltb c p) 1 0 ≤ maxTerms
 proposing c p few most = go (ltb c p) refl
   where
-    go : (b : Bool) → ltb c p ≡ b → c + cond b 1 0 ≤ 64
+    go : (b : Bool) → ltb c p ≡ b → c + cond b 1 0 ≤ maxTerms
     go true e = omega (arith, ltb-true c p e)
     go false e = omega arith
 
@@ -247,13 +251,54 @@ turns-skip packet slot part m (suc t) s l h =
 
 -- ---- what holds between turns
 
-pub cleared-sharing : {n a m : ℕ} {x : Carried} {b t : List ℕ} → Sharing n a m x b t → Sharing n a m (withoutPiggyback x) b t
-cleared-sharing s = record { few = s .few; kept = s .kept; started = s .started; filed = s .filed; back = tt; nacks = s .nacks; piggybacks = s .piggybacks }
+pub cleared-sharing : {n : ℕ} {x : Carry} {b t : List ℕ} → Sharing n x b t → Sharing n (withoutPiggyback x) b t
+cleared-sharing s = record { few = s .few; kept = s .kept; started = s .started; recording = s .recording; back = tt }
 
-pub sharing-more : {n a m d : ℕ} {x : Carried} {b t : List ℕ} → m ≤ d → Sharing n a m x b t → Sharing n a d x b t
-sharing-more h s = record { few = s .few; kept = s .kept; started = s .started; filed = s .filed; back = s .back; nacks = s .nacks; piggybacks = omega (arith, s .piggybacks) }
+-- ---- the turns of the nodes below m, from y₀, b₀ and t₀ on
+
+pub record Turned (n : ℕ) (packet : Packet) (slot : Slot) (part : ℕ) (y₀ : Carry) (b₀ t₀ : List ℕ) (m : ℕ) (y : Carry) (b t : List ℕ) : Type 0 where
+  pub most : m ≤ n
+  pub counter : y .counter ≡ y₀ .counter
+  pub nacks : y .nacks ≡ y₀ .nacks
+  pub piggybacks : y .piggybacks ≤ y₀ .piggybacks + m
+  pub sharing : Sharing n y b t
+  pub shared : sharedOf n y b t ≡ turns packet (slot .0) part m (sharedOf n y₀ b₀ t₀)
+
+module _ {n : ℕ} {packet : Packet} {slot : Slot} {part : ℕ} {y₀ : Carry} {b₀ t₀ : List ℕ} where
+  pub turned-none : Sharing n y₀ b₀ t₀ → Turned n packet slot part y₀ b₀ t₀ 0 y₀ b₀ t₀
+  unfolding turns
+  turned-none s = record { most = omega arith; counter = refl; nacks = refl; piggybacks = omega arith; sharing = s; shared = refl }
+
+  -- no node from m to below j takes part
+  pub turned-skip : {m j : ℕ} {y : Carry} {b t : List ℕ} → m ≤ j → j ≤ n → ((k : ℕ) → m ≤ k → k < j → has part k ≡ false) →
+      Turned n packet slot part y₀ b₀ t₀ m y b t → Turned n packet slot part y₀ b₀ t₀ j y b t
+  turned-skip {m} {j} up most none u =
+      record {
+        most = most;
+        counter = u .counter;
+        nacks = u .nacks;
+        piggybacks = omega (arith, u .piggybacks);
+        sharing = u .sharing;
+        shared = u .shared ∙ sym (turns-skip packet (slot .0) part m j (sharedOf n y₀ b₀ t₀) up none);
+      }
+
+  -- node m takes part
+  pub turned-more : {m : ℕ} {y r : Carry} {b t b' t' : List ℕ} → m < n → has part m ≡ true → TakesTurn packet slot (record { 0 = m }) y b t r b' t' →
+      Turned n packet slot part y₀ b₀ t₀ m y b t → Turned n packet slot part y₀ b₀ t₀ (m + 1) r b' t'
+  turned-more {m} h e took u =
+      record {
+        most = omega arith;
+        counter = took .counter ∙ u .counter;
+        nacks = took .nacks ∙ u .nacks;
+        piggybacks = omega (arith, took .piggybacks, u .piggybacks);
+        sharing = took .sharing n h (u .sharing);
+        shared =
+            took .shared n h (u .sharing)
+            ∙ ap (takeTurn packet (slot .0) m) (u .shared)
+            ∙ sym (turns-more packet (slot .0) part m (sharedOf n y₀ b₀ t₀) e);
+      }
 
 -- the length of a node's log is the size of its set
-pub log-length : (n : ℕ) (b : List ℕ) (j : ℕ) → j < n → length (stateOf (statesOf n b) j .log) ≡ ones (loggedSet b (195 * j))
+pub log-length : (n : ℕ) (b : List ℕ) (j : ℕ) → j < n → length (stateOf (statesOf n b) j .log) ≡ ones (loggedSet b (firstOf j))
 unfolding logOf
-log-length n b j h = ap (λ (s : State). length (s .log)) (state-at n b j h) ∙ length-tabulate (ones (loggedSet b (195 * j))) (entryAt b (195 * j))
+log-length n b j h = ap (λ (s : State). length (s .log)) (state-at n b j h) ∙ length-tabulate (ones (loggedSet b (firstOf j))) (entryAt b (firstOf j))

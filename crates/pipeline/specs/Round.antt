@@ -5,6 +5,7 @@ use mathlib.Core.List.{List, [], _∷_, _++_}
 use lib.Dec.{ltb, eqb}
 use lib.ListN.{length, getD, set}
 use Rattle.network.specs.Graph.{has}
+use Rattle.phy.specs.declared.packet.Nack.{Nack}
 use Rattle.phy.specs.declared.packet.Packet.{Packet}
 use Rattle.phy.specs.declared.packet.Piggyback.{Piggyback}
 use Rattle.protocol.specs.Paxos.{State, empty}
@@ -47,12 +48,16 @@ pub record Prepared : Type 0 where
   pub shared : Shared
   pub packet : Packet
 
+abbrev pub oneNack : Nack → ℕ
+oneNack Nack.None = 0
+oneNack (Nack.Of t) = 1
+
 -- the initiator of a round
 abbrev pub initiatorOf : ℕ → ℕ → ℕ
 initiatorOf n round = round % n
 
--- `prepare_round` of initiator i at this slot, with P proposals: its turn on its own state; a new proposal if any is left; a NACK above 0
--- is counted; what is newly committed is recorded to end at this slot
+-- `prepare_round` of initiator i at this slot, with P proposals: its turn on its own state; a new proposal if any is left; a NACK is
+-- counted; what is newly committed is recorded to end at this slot
 unfoldable pub prepareRound : ℕ → ℕ → ℕ → ℕ → Shared → Prepared
 prepareRound n proposals i slot s =
     let proposes : Bool = ltb (s .counter) proposals in
@@ -65,7 +70,7 @@ prepareRound n proposals i slot s =
         starts = starts;
         records = recordAll starts slot (turn .newly) (s .records);
         piggyback = s .piggyback;
-        nacks = s .nacks + cond (ltb 0 (turn .packet .«nack_term» .0)) 1 0;
+        nacks = s .nacks + oneNack (turn .packet .«nack_term»);
         piggybacks = s .piggybacks;
       };
       packet = turn .packet;

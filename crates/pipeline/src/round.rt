@@ -1,23 +1,26 @@
 // The nodes' part of a round, after the source's sim/paxos_pipeline.rs.
-use super::records::Recorded;
+use super::carry::Carry;
+use super::records::HISTORY_SIZE;
 use super::records::record_all;
-use super::shared::Shared;
+use network::graph::full_set;
 use network::units::NodeId;
 use network::units::Slot;
+use phy::packet::Nack;
 use phy::packet::Packet;
 use phy::packet::Piggyback;
+use protocol::state::place_of;
 use protocol::turns::initiator_turn;
 use protocol::turns::participant_turn;
 ghost use mathlib.Core.Path.{_≡_};
 ghost use mathlib.Core.Bool.{cond};
-ghost use Prim.Native.Nat.{ℕ, _+_, _≤_, _<_, _^_};
-ghost use Rattle.protocol.specs.View.{Carried};
-ghost use Rattle.pipeline.specs.Round.{latest, onePiggyback};
-ghost use Rattle.pipeline.specs.View.{Started, Starts, Sharing, Prepares, TakesTurn, Processes, withoutPiggyback};
+ghost use Prim.Native.Nat.{_+_, _≤_, _<_};
+ghost use Rattle.config.specs.Limits.{maxTerms};
+ghost use Rattle.pipeline.specs.Round.{oneNack};
+ghost use Rattle.pipeline.specs.View.{Started, Starts, MayPrepare, Prepares, MayTake, TakesTurn, MayProcess, Processes, mostCounted, replaced, withoutPiggyback};
 
-// The nodes' part after `prepare_round`, and the packet to be flooded.
-pub struct Prepared {
-    pub shared: Shared,
+// What the rounds carry after `prepare_round`, and the packet to be flooded.
+pub struct PreparedRound {
+    pub carry: Carry,
     pub packet: Packet,
 }
 
@@ -27,48 +30,54 @@ fn one_if(yes: bool) -> u64
     if yes { 1 } else { 0 }
 }
 
+fn one_nack(nack: Nack) -> u64
+    ensures { λ r. ⌜ r ≡ oneNack nack ⌝ }
+{
+    match nack {
+        Nack::None => 0,
+        Nack::Of(_) => 1,
+    }
+}
+
 // Where a proposal is made now, its slot is kept.
-fn start(table: &mut [u64], counter: u64, proposes: bool, slot: Slot)
-    requires { ⌜ Started counter (now table) × (counter + cond proposes 1 0 ≤ 64) ⌝ }
-    ensures { λ _. ⌜ Starts counter proposes (slot .0) (now (table .entry)) (now (table .exit)) ⌝ }
+fn start(history: &mut [u64; HISTORY_SIZE], counter: u64, proposes: bool, slot: Slot)
+    requires { ⌜ Started counter (now history) × (counter + cond proposes 1 0 ≤ maxTerms) ⌝ }
+    ensures { λ _. ⌜ Starts counter proposes (slot .0) (now (history .entry)) (now (history .exit)) ⌝ }
 {
     if proposes {
-        table[counter as usize] = slot.0;
+        history[counter as usize] = slot.0;
     }
 }
 
 // `prepare_round`: the initiator's turn, the record of what it newly commits, and its packet.
 pub fn prepare_round(
-    x: Shared,
+    x: Carry,
     states: &mut [u64],
-    table: &mut [u64],
+    history: &mut [u64; HISTORY_SIZE],
     n: usize,
     proposals: u64,
     initiator: NodeId,
     slot: Slot,
-) -> Prepared
-    requires { ⌜ ((a : ℕ) × (b : ℕ) × Sharing n a b x (now states) (now table) × (a < 2 ^ 40)) × (initiator .0 < n) × (n ≤ 32) × (proposals ≤ 64) × (2 ≤ n) ⌝ }
-    ensures { λ r. ⌜ Prepares n proposals (initiator .0) (slot .0) x (now (states .entry)) (now (table .entry)) r (now (states .exit)) (now (table .exit)) ⌝ }
+) -> PreparedRound
+    requires { ⌜ MayPrepare n proposals initiator x (now states) (now history) ⌝ }
+    ensures { λ r. ⌜ Prepares n proposals initiator slot x (now (states .entry)) (now (history .entry)) r (now (states .exit)) (now (history .exit)) ⌝ }
 {
-    let at = 195 * initiator.0;
+    let at = place_of(initiator);
     let counter = x.counter;
     let proposes = counter < proposals;
     let back = x.piggyback;
     let turn = initiator_turn(states, at, initiator, n, counter, proposes, back);
     let packet = turn.packet;
-    start(table, counter, proposes, slot);
-    let before = Recorded {
-        count: x.records,
-        terms: x.recorded,
-    };
-    let filed = record_all(table, before, slot.0, turn.newly);
-    Prepared {
-        shared: Shared {
+    let nack = packet.nack_term;
+    start(history, counter, proposes, slot);
+    let before = x.recorded;
+    let recorded = record_all(history, before, turn.newly, slot);
+    PreparedRound {
+        carry: Carry {
             counter: counter + one_if(proposes),
-            records: filed.count,
-            recorded: filed.terms,
+            recorded,
             piggyback: back,
-            nacks: x.nacks + one_if(0 < packet.nack_term.0),
+            nacks: x.nacks + one_nack(nack),
             piggybacks: x.piggybacks,
         },
         packet,
@@ -76,58 +85,56 @@ pub fn prepare_round(
 }
 
 // A turn's piggyback, if there is one, in the place of that before it, and counted.
-fn recovered(y: Shared, recovery: Piggyback) -> Shared
-    requires { ⌜ y .piggybacks < 2 ^ 40 ⌝ }
-    ensures { λ r. ⌜ r ≡ record { counter = y .counter; records = y .records; recorded = y .recorded; piggyback = latest recovery (y .piggyback); nacks = y .nacks; piggybacks = y .piggybacks + onePiggyback recovery } ⌝ }
+fn recovered(y: Carry, recovery: Piggyback) -> Carry
+    requires { ⌜ y .piggybacks < mostCounted ⌝ }
+    ensures { λ r. ⌜ r ≡ replaced recovery y ⌝ }
 {
     match recovery {
         Piggyback::None => y,
-        Piggyback::Of(t, d) => Shared {
-            counter: y.counter,
-            records: y.records,
-            recorded: y.recorded,
-            piggyback: Piggyback::Of(t, d),
-            nacks: y.nacks,
-            piggybacks: y.piggybacks + 1,
-        },
+        Piggyback::Of(t, d) => {
+            let recorded = y.recorded;
+            Carry {
+                counter: y.counter,
+                recorded,
+                piggyback: Piggyback::Of(t, d),
+                nacks: y.nacks,
+                piggybacks: y.piggybacks + 1,
+            }
+        }
     }
 }
 
 // A participant's turn, and the record of what it newly commits.
 fn take_turn(
-    x: Shared,
+    x: Carry,
     states: &mut [u64],
-    table: &mut [u64],
+    history: &mut [u64; HISTORY_SIZE],
     packet: Packet,
     node: NodeId,
     slot: Slot,
-) -> Shared
-    requires { ⌜ ((n : ℕ) × (a : ℕ) × (b : ℕ) × Sharing n a b x (now states) (now table) × (node .0 < n) × (n ≤ 32) × (b < 2 ^ 40)) × Carried (x .counter) packet ⌝ }
-    ensures { λ r. ⌜ TakesTurn packet (slot .0) (node .0) x (now (states .entry)) (now (table .entry)) r (now (states .exit)) (now (table .exit)) ⌝ }
+) -> Carry
+    requires { ⌜ MayTake packet node x (now states) (now history) ⌝ }
+    ensures { λ r. ⌜ TakesTurn packet slot node x (now (states .entry)) (now (history .entry)) r (now (states .exit)) (now (history .exit)) ⌝ }
 {
-    let at = 195 * node.0;
+    let at = place_of(node);
     let turn = participant_turn(states, at, node, packet);
-    let before = Recorded {
-        count: x.records,
-        terms: x.recorded,
-    };
-    let filed = record_all(table, before, slot.0, turn.newly);
+    let before = x.recorded;
+    let recorded = record_all(history, before, turn.newly, slot);
     let recovery = turn.recovery;
     let mut y = x;
-    y.records = filed.count;
-    y.recorded = filed.terms;
+    y.recorded = recorded;
     recovered(y, recovery)
 }
 
 // The same with no piggyback.
-fn cleared(x: Shared) -> Shared
+fn cleared(x: Carry) -> Carry
     ensures { λ r. ⌜ r ≡ withoutPiggyback x ⌝ }
 {
+    let recorded = x.recorded;
     let none = Piggyback::None;
-    Shared {
+    Carry {
         counter: x.counter,
-        records: x.records,
-        recorded: x.recorded,
+        recorded,
         piggyback: none,
         nacks: x.nacks,
         piggybacks: x.piggybacks,
@@ -136,22 +143,22 @@ fn cleared(x: Shared) -> Shared
 
 // `process_round`: the turns of the nodes that took part, ascending.
 pub fn process_round(
-    x: Shared,
+    x: Carry,
     states: &mut [u64],
-    table: &mut [u64],
+    history: &mut [u64; HISTORY_SIZE],
     n: usize,
     packet: Packet,
     slot: Slot,
     part: u64,
-) -> Shared
-    requires { ⌜ ((a : ℕ) × (b : ℕ) × Sharing n a b x (now states) (now table) × (b + 64 < 2 ^ 40)) × (n ≤ 32) × Carried (x .counter) packet ⌝ }
-    ensures { λ r. ⌜ Processes n packet (slot .0) part x (now (states .entry)) (now (table .entry)) r (now (states .exit)) (now (table .exit)) ⌝ }
+) -> Carry
+    requires { ⌜ MayProcess n packet x (now states) (now history) ⌝ }
+    ensures { λ r. ⌜ Processes n packet slot part x (now (states .entry)) (now (history .entry)) r (now (states .exit)) (now (history .exit)) ⌝ }
 {
     let mut y = cleared(x);
-    let mut rest = part % (1u64 << n);
+    let mut rest = part & full_set(n);
     while rest != 0 {
         let j = u64::trailing_zeros(rest) as usize;
-        y = take_turn(y, states, table, packet, NodeId(j), slot);
+        y = take_turn(y, states, history, packet, NodeId(j), slot);
         rest = rest & (rest - 1);
     }
     y

@@ -10,18 +10,21 @@ use native.Mathlib.Omega.{arith}
 use borrow.Author.Tests.{leb-true, leb-false, ltb-true}
 use lib.Dec.{leb, ltb}
 use lib.ListN.{getD}
+use Rattle.config.specs.Limits.{maxTerms}
 use Rattle.phy.specs.declared.packet.Data.{Data}
 use Rattle.phy.specs.declared.packet.LastAccepted.{LastAccepted}
+use Rattle.phy.specs.declared.packet.Nack.{Nack}
 use Rattle.phy.specs.declared.packet.Piggyback.{Piggyback}
 use Rattle.phy.specs.declared.packet.Packet.{Packet}
-use Rattle.protocol.specs.declared.turns.Prepared.{Prepared}
+use Rattle.protocol.specs.Layout.{dataPlace, noData}
+use Rattle.protocol.specs.declared.turns.Announced.{Announced}
 use Rattle.protocol.specs.Paxos.{Pending, State, held, union, voted, mergeVotesUpTo, quorum, greatestQuorum, recovery, termSet}
 use Rattle.protocol.specs.Turns.{Initiated, counted, currentTerm, proposalData, announce, initiatorTurn}
-use Rattle.protocol.specs.View.{dataOf, dataAt, lastAt, lastOf, pendingOf, view, lastBelow, dataBelow, proposalBelow, backBelow, Kept, Wrote, Next, Carried, Initiates}
+use Rattle.protocol.specs.View.{dataOf, dataAt, lastAt, lastOf, pendingOf, view, lastBelow, dataBelow, proposalBelow, backBelow, Kept, Wrote, Next, TermsBelow, Initiates}
 use Rattle.protocol.proofs.Places.{either}
 use Rattle.protocol.proofs.Sets.{union-assoc}
-use Rattle.protocol.proofs.Frame.{wrote-then}
-use Rattle.protocol.proofs.Kept.{state-is, last-mono, pending-none}
+use Rattle.protocol.proofs.Frame.{wrote-then, state-is}
+use Rattle.protocol.proofs.Kept.{last-mono, pending-none}
 use Rattle.protocol.proofs.Steps.{recovery-view, held-free}
 
 -- two steps, one after the other
@@ -62,27 +65,25 @@ quorum-below {c} {b} {at} (suc k) n kept = go (quorum n (pendingOf b at k)) refl
     go false e h = h
 
 data-below : (k : ℕ) → dataBelow (dataOf k)
-data-below k = go (ltb k 64) refl
+data-below k = go (ltb k noData) refl
   where
-    go : (b : Bool) → ltb k 64 ≡ b → dataBelow (cond b (Data.Of (record { 0 = k })) Data.Empty)
-    go true e = ltb-true k 64 e
+    go : (b : Bool) → ltb k noData ≡ b → dataBelow (cond b (Data.Of (record { 0 = k })) Data.Empty)
+    go true e = ltb-true k noData e
     go false e = tt
 
 -- a term that can be recovered is held, so it is below the counter
-pub recovery-below : {c : ℕ} {b : List ℕ} {at : ℕ} (t : ℕ) → Kept c b at → backBelow c (recovery t (view b at))
+pub recovery-below : {c : ℕ} {b : List ℕ} {at : ℕ} (n : Nack) → Kept c b at → backBelow c (recovery n (view b at))
 unfolding recovery
-recovery-below zero kept = tt
-recovery-below {c} {b} {at} (suc t) kept =
-    rw (recovery-view (suc t) kept (λ q. omega arith)) (go (held (suc t) (view b at)) refl)
+recovery-below Nack.None kept = tt
+recovery-below {c} {b} {at} (Nack.Of u) kept = rw (recovery-view b at u) (go (held (u .0) (view b at)) refl)
   where
-    go : (x : Bool) → held (suc t) (view b at) ≡ x →
-        backBelow c (cond x (Piggyback.Of (record { 0 = suc t }) (dataAt b at (suc t))) Piggyback.None)
+    go : (x : Bool) → held (u .0) (view b at) ≡ x → backBelow c (cond x (Piggyback.Of u (dataAt b at (u .0))) Piggyback.None)
     go true e = (
       ⊎-elim
-          (λ w. absurd (true≢false (sym e ∙ held-free (suc t) kept (leb-true c (suc t) w))))
-          (λ w. leb-false c (suc t) w)
-          (either (leb c (suc t))),
-      data-below (getD b (at + 64 + suc t) 0),
+          (λ w. absurd (true≢false (sym e ∙ held-free (u .0) kept (leb-true c (u .0) w))))
+          (λ w. leb-false c (u .0) w)
+          (either (leb c (u .0))),
+      data-below (getD b (at + dataPlace + u .0) 0),
     )
     go false e = tt
 
@@ -96,8 +97,8 @@ proposal-mono : {c d : ℕ} (t : ℕ) (x : Data) → c ≤ d → proposalBelow c
 proposal-mono t Data.Empty h k = tt
 proposal-mono t (Data.Of u) h k = (le-trans (k .0) h, k .1)
 
-pub carried-mono : {c d : ℕ} {p : Packet} → c ≤ d → Carried c p → Carried d p
-carried-mono {c} {d} {p} h k =
+pub terms-mono : {c d : ℕ} {p : Packet} → c ≤ d → TermsBelow c p → TermsBelow d p
+terms-mono {c} {d} {p} h k =
     record {
       last = last-mono (p .«last_accepted_term») h (k .last);
       proposal = proposal-mono (p .«current_term» .0) (p .«proposal_data») h (k .proposal);
@@ -110,16 +111,16 @@ more : (b : Bool) (c : ℕ) → c ≤ counted b c
 more true c = omega arith
 more false c = le-refl c
 
-made : (b : Bool) (c : ℕ) → counted b c ≤ 64 → proposalBelow (counted b c) (currentTerm b c) (proposalData b c)
+made : (b : Bool) (c : ℕ) → counted b c ≤ maxTerms → proposalBelow (counted b c) (currentTerm b c) (proposalData b c)
 made true c h = (omega arith, omega arith)
 made false c h = tt
 
 -- the terms of the initiator's packet are below the counter
-pub packet-carried : (i n c : ℕ) (b : Bool) (pb : Piggyback) (s : State) → counted b c ≤ 64 →
+pub packet-below : (i n c : ℕ) (b : Bool) (pb : Piggyback) (s : State) → counted b c ≤ maxTerms →
     lastBelow (counted b c) (initiatorTurn i n c b pb s .state .last) → backBelow c pb →
-    Carried (counted b c) (initiatorTurn i n c b pb s .packet)
+    TermsBelow (counted b c) (initiatorTurn i n c b pb s .packet)
 unfolding initiatorTurn announce
-packet-carried i n c b pb s h l k =
+packet-below i n c b pb s h l k =
     record { last = l; proposal = made b c h; back = back-mono pb (more b c) k }
 
 -- a last accepted term is below what its number is at most
@@ -127,22 +128,22 @@ pub last-below-of : (x c : ℕ) → x ≤ c → lastBelow c (lastOf x)
 last-below-of zero c h = tt
 last-below-of (suc x) c h = h
 
-pub initiates : (i n c : ℕ) (p : Bool) (pb : Piggyback) (s : State) (at : ℕ) (b b' : List ℕ) (r : Prepared) (y : Initiated) →
-    counted p c ≤ 64 → Wrote at b b' → Kept (counted p c) b' at → y ≡ initiatorTurn i n c p pb s →
-    view b' at ≡ y .state → r .packet ≡ y .packet → r .newly ≡ termSet (y .newly) →
-    Initiates p c pb at b r b' (initiatorTurn i n c p pb s)
+pub initiates : (i n c : ℕ) (p : Bool) (pb : Piggyback) (at : ℕ) (b b' : List ℕ) (r : Announced) (y : Initiated) →
+    counted p c ≤ maxTerms → Wrote at b b' → Kept (counted p c) b' at → y ≡ initiatorTurn i n c p pb (view b at) →
+    view b' at ≡ y .state → r .packet ≡ y .packet → r .newly ≡ termSet (y .newly) → Initiates at i n c p pb b r b'
 unfolding initiatorTurn announce
-initiates i n c p pb s at b b' r y h wrote kept e st pk nw =
-    let now : view b' at ≡ initiatorTurn i n c p pb s .state = st ∙ ap (λ (x : Initiated). x .state) e in
-    let sent : r .packet ≡ initiatorTurn i n c p pb s .packet = pk ∙ ap (λ (x : Initiated). x .packet) e in
+initiates i n c p pb at b b' r y h wrote kept e st pk nw =
+    let x = view b at in
+    let now : view b' at ≡ initiatorTurn i n c p pb x .state = st ∙ ap (λ (z : Initiated). z .state) e in
+    let sent : r .packet ≡ initiatorTurn i n c p pb x .packet = pk ∙ ap (λ (z : Initiated). z .packet) e in
     record {
       wrote = wrote;
       kept = kept;
       state = now;
       packet = sent;
-      newly = nw ∙ ap (λ (x : Initiated). termSet (x .newly)) e;
-      carried = λ k.
-          subst (Carried (counted p c)) (sym sent)
-          (packet-carried i n c p pb s h
-          (subst (λ (x : State). lastBelow (counted p c) (x .last)) now (last-below-of (lastAt b' at) (counted p c) (kept .last-below))) k);
+      newly = nw ∙ ap (λ (z : Initiated). termSet (z .newly)) e;
+      below = λ k.
+          subst (TermsBelow (counted p c)) (sym sent)
+          (packet-below i n c p pb x h
+          (subst (λ (z : State). lastBelow (counted p c) (z .last)) now (last-below-of (lastAt b' at) (counted p c) (kept .last-below))) k);
     }

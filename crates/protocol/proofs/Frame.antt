@@ -15,6 +15,7 @@ use Rattle.random.specs.Table.{tabulate}
 use Rattle.network.proofs.Sets.{has-below}
 use Rattle.random.proofs.Tables.{tabulate-cong}
 use Rattle.phy.proofs.Masks.{has-zero}
+use Rattle.protocol.specs.Layout.{dataPlace, logPlace, pendingPlace, loggedPlace, lastPlace, nodeSize}
 use Rattle.protocol.specs.Paxos.{State, logged, empty}
 use Rattle.protocol.specs.View.{lastOf, dataAt, dataOf, termAt, pendingSet, loggedSet, lastAt, entryAt, logOf, pendingOf, view, Distinct, Kept, Wrote}
 use Rattle.protocol.proofs.Places.{either}
@@ -35,7 +36,7 @@ wrote-then v w =
     }
 
 -- a store at one of the node's places
-pub wrote-set : (at i v : ℕ) (b : List ℕ) → at ≤ i → i < at + 195 → Wrote at b (set b i v)
+pub wrote-set : (at i v : ℕ) (b : List ℕ) → at ≤ i → i < at + nodeSize → Wrote at b (set b i v)
 wrote-set at i v b h g =
     record {
       size = length-set b i v;
@@ -107,28 +108,28 @@ kept-from n p l a g k =
 -- the numbers of the node at this place are the same
 pub record Same (at : ℕ) (b b' : List ℕ) : Type 0 where
   pub size : length b' ≡ length b
-  pub places : (k : ℕ) → k < 195 → getD b' (at + k) 0 ≡ getD b (at + k) 0
+  pub places : (k : ℕ) → k < nodeSize → getD b' (at + k) 0 ≡ getD b (at + k) 0
 
-pub same-at : {at : ℕ} {b b' : List ℕ} → Same at b b' → (i : ℕ) → at ≤ i → i < at + 195 → getD b' i 0 ≡ getD b i 0
+pub same-at : {at : ℕ} {b b' : List ℕ} → Same at b b' → (i : ℕ) → at ≤ i → i < at + nodeSize → getD b' i 0 ≡ getD b i 0
 same-at {at} {b} {b'} s i h g =
     let e : at + (i - at) ≡ i = omega arith in
     subst (λ (x : ℕ). getD b' x 0 ≡ getD b x 0) e (s .places (i - at) (omega arith))
 
 module _ {c : ℕ} {b b' : List ℕ} {at : ℕ} (s : Same at b b') (k : Kept c b at) where
   same-pending-set : pendingSet b' at ≡ pendingSet b at
-  same-pending-set = same-at s (at + 192) (omega arith) (omega arith)
+  same-pending-set = same-at s (at + pendingPlace) (omega arith) (omega arith)
 
   same-logged-set : loggedSet b' at ≡ loggedSet b at
-  same-logged-set = same-at s (at + 193) (omega arith) (omega arith)
+  same-logged-set = same-at s (at + loggedPlace) (omega arith) (omega arith)
 
   same-last : lastAt b' at ≡ lastAt b at
-  same-last = same-at s (at + 194) (omega arith) (omega arith)
+  same-last = same-at s (at + lastPlace) (omega arith) (omega arith)
 
   same-log : logOf b' at ≡ logOf b at
   same-log =
       log-same k b' same-logged-set
-      (λ j h. same-at s (at + 128 + j) (omega arith) (omega arith))
-      (λ t e. ap dataOf (same-at s (at + 64 + t) (omega arith) (omega (arith, logged-lt k t e))))
+      (λ j h. same-at s (at + logPlace + j) (omega arith) (omega arith))
+      (λ t e. ap dataOf (same-at s (at + dataPlace + t) (omega arith) (omega (arith, logged-lt k t e))))
 
   same-pending : (t : ℕ) → pendingOf b' at t ≡ pendingOf b at t
   unfolding pendingOf
@@ -138,7 +139,7 @@ module _ {c : ℕ} {b b' : List ℕ} {at : ℕ} (s : Same at b b') (k : Kept c b
       (λ e.
       let l = pending-lt k t e in
       rw e
-      (ap₂ (λ (v d : ℕ). some (record { votes = v; payload = dataOf d })) (same-at s (at + t) (omega arith) (omega arith)) (same-at s (at + 64 + t) (omega arith) (omega arith))))
+      (ap₂ (λ (v d : ℕ). some (record { votes = v; payload = dataOf d })) (same-at s (at + t) (omega arith) (omega arith)) (same-at s (at + dataPlace + t) (omega arith) (omega arith))))
       (λ e. rw e)
       (either (has (pendingSet b at) t)))
 
@@ -151,10 +152,10 @@ module _ {c : ℕ} {b b' : List ℕ} {at : ℕ} (s : Same at b b') (k : Kept c b
   frame-kept = kept-from (s .size) same-pending-set same-logged-set same-last same-log k
 
 -- what another node writes leaves the node's numbers as they are
-pub wrote-same : {at other : ℕ} {b b' : List ℕ} → Wrote other b b' → (other + 195 ≤ at) → Same at b b'
+pub wrote-same : {at other : ℕ} {b b' : List ℕ} → Wrote other b b' → (other + nodeSize ≤ at) → Same at b b'
 wrote-same w h = record { size = w .size; places = λ k l. w .behind _ (omega arith) }
 
-pub wrote-same-before : {at other : ℕ} {b b' : List ℕ} → Wrote other b b' → (at + 195 ≤ other) → Same at b b'
+pub wrote-same-before : {at other : ℕ} {b b' : List ℕ} → Wrote other b b' → (at + nodeSize ≤ other) → Same at b b'
 wrote-same-before w h = record { size = w .size; places = λ k l. w .before _ (omega arith) }
 
 -- ---- the first state
@@ -167,22 +168,22 @@ zeros (suc n) (suc t) = zeros n t
 module _ (m at : ℕ) where
   none-logged : logOf (replicate m 0) at ≡ []
   unfolding logOf tabulate ones
-  none-logged = rw (zeros m (at + 193))
+  none-logged = rw (zeros m (at + loggedPlace))
 
   pub fresh-view : view (replicate m 0) at ≡ empty
   unfolding pendingOf
-  fresh-view = state-is none-logged (λ t. rw (zeros m (at + 192), has-zero t)) (ap lastOf (zeros m (at + 194)))
+  fresh-view = state-is none-logged (λ t. rw (zeros m (at + pendingPlace), has-zero t)) (ap lastOf (zeros m (at + lastPlace)))
 
-  pub fresh-kept : at + 195 ≤ m → Kept 0 (replicate m 0) at
+  pub fresh-kept : at + nodeSize ≤ m → Kept 0 (replicate m 0) at
   unfolding logged Distinct
   fresh-kept h =
       record {
         room = omega arith;
         fits = omega (arith, length-replicate {A = ℕ} m 0);
-        pending-below = λ t g. rw (zeros m (at + 192)) (has-zero t);
-        logged-below = λ t g. rw (zeros m (at + 193)) (has-zero t);
-        last-below = omega (arith, zeros m (at + 194));
-        apart = λ t g. rw (zeros m (at + 192)) (has-zero t);
-        logged-is = λ t. rw (none-logged, zeros m (at + 193), has-zero t);
+        pending-below = λ t g. rw (zeros m (at + pendingPlace)) (has-zero t);
+        logged-below = λ t g. rw (zeros m (at + loggedPlace)) (has-zero t);
+        last-below = omega (arith, zeros m (at + lastPlace));
+        apart = λ t g. rw (zeros m (at + pendingPlace)) (has-zero t);
+        logged-is = λ t. rw (none-logged, zeros m (at + loggedPlace), has-zero t);
         distinct = rw none-logged tt;
       }

@@ -21,17 +21,13 @@ use Rattle.random.specs.Table.{tabulate}
 use Rattle.random.proofs.Tables.{tabulate-cong, tabulate-snoc}
 use Rattle.phy.specs.declared.packet.Data.{Data}
 use Rattle.phy.specs.declared.packet.LastAccepted.{LastAccepted}
-use Rattle.protocol.specs.Paxos.{Entry, Pending, State, logged, held, isSome, put, entry, raise}
+use Rattle.protocol.specs.Layout.{dataPlace, logPlace, pendingPlace, loggedPlace, lastPlace, nodeSize}
+use Rattle.protocol.specs.Paxos.{Entry, Pending, logged, held, isSome, put, entry, raise}
 use Rattle.protocol.specs.View.{dataOf, lastOf, votesAt, dataAt, termAt, pendingSet, loggedSet, lastAt, entryAt, logOf, pendingOf, view, lastBelow, Distinct, Kept, Wrote}
 use Rattle.protocol.proofs.Places.{either, same-or}
 use Rattle.protocol.proofs.Logs.{logged-append, distinct-append}
 use Rattle.protocol.proofs.Words.{has-with, ones-with}
-use Rattle.protocol.proofs.Frame as frame
 use Rattle.protocol.proofs.Frame.{logged-word, term-logged, logged-lt, pending-lt, log-same, wrote-set, wrote-then}
-
--- two states are the same field by field
-pub state-is : {x y : State} → x .log ≡ y .log → ((t : ℕ) → x .pending t ≡ y .pending t) → x .last ≡ y .last → x ≡ y
-state-is = frame.state-is
 
 -- ---- terms below a counter are below a greater one
 
@@ -109,7 +105,7 @@ pub length-three : (b : List ℕ) (i j k x y z : ℕ) → length (set (set (set 
 length-three b i j k x y z =
     length-set (set (set b i x) j y) k z ∙ length-set (set b i x) j y ∙ length-set b i x
 
-pub wrote-three : (b : List ℕ) (at i j k x y z : ℕ) → at ≤ i → i < at + 195 → at ≤ j → j < at + 195 → at ≤ k → k < at + 195 →
+pub wrote-three : (b : List ℕ) (at i j k x y z : ℕ) → at ≤ i → i < at + nodeSize → at ≤ j → j < at + nodeSize → at ≤ k → k < at + nodeSize →
     Wrote at b (set (set (set b i x) j y) k z)
 wrote-three b at i j k x y z h h' g g' l l' =
     wrote-then (wrote-set at i x b h h')
@@ -127,40 +123,40 @@ last-raise (suc x) t =
 
 module _ (b : List ℕ) (at m : ℕ) where
   abbrev pub risen : List ℕ
-  risen = set b (at + 194) m
+  risen = set b (at + lastPlace) m
 
-  pub risen-other : (i : ℕ) → i < at + 194 → getD risen i 0 ≡ getD b i 0
-  risen-other i h = getD-set-other b (at + 194) i m 0 (λ q. omega arith)
+  pub risen-other : (i : ℕ) → i < at + lastPlace → getD risen i 0 ≡ getD b i 0
+  risen-other i h = getD-set-other b (at + lastPlace) i m 0 (λ q. omega arith)
 
   pub risen-log : {c : ℕ} → Kept c b at → logOf risen at ≡ logOf b at
   risen-log k =
-      log-same k risen (risen-other (at + 193) (omega arith))
-      (λ j h. risen-other (at + 128 + j) (omega arith))
-      (λ t e. ap dataOf (risen-other (at + 64 + t) (omega (arith, logged-lt k t e))))
+      log-same k risen (risen-other (at + loggedPlace) (omega arith))
+      (λ j h. risen-other (at + logPlace + j) (omega arith))
+      (λ t e. ap dataOf (risen-other (at + dataPlace + t) (omega (arith, logged-lt k t e))))
 
   pub risen-pending : {c : ℕ} → Kept c b at → (t : ℕ) → pendingOf risen at t ≡ pendingOf b at t
   risen-pending k t =
-      pending-same b risen at t (ap (λ (x : ℕ). has x t) (risen-other (at + 192) (omega arith)))
+      pending-same b risen at t (ap (λ (x : ℕ). has x t) (risen-other (at + pendingPlace) (omega arith)))
       (λ e.
       let l = pending-lt k t e in
-      (risen-other (at + t) (omega arith), ap dataOf (risen-other (at + 64 + t) (omega arith))))
+      (risen-other (at + t) (omega arith), ap dataOf (risen-other (at + dataPlace + t) (omega arith))))
 
   pub risen-last : {c : ℕ} → Kept c b at → lastAt risen at ≡ m
-  risen-last k = getD-set-same b (at + 194) m 0 (omega (arith, k .fits))
+  risen-last k = getD-set-same b (at + lastPlace) m 0 (omega (arith, k .fits))
 
   pub risen-kept : {c : ℕ} → Kept c b at → m ≤ c → Kept c risen at
   risen-kept k h =
       record {
         room = k .room;
-        fits = omega (arith, k .fits, length-set b (at + 194) m);
-        pending-below = λ t g. rw (risen-other (at + 192) (omega arith)) (k .pending-below t g);
-        logged-below = λ t g. rw (risen-other (at + 193) (omega arith)) (k .logged-below t g);
+        fits = omega (arith, k .fits, length-set b (at + lastPlace) m);
+        pending-below = λ t g. rw (risen-other (at + pendingPlace) (omega arith)) (k .pending-below t g);
+        logged-below = λ t g. rw (risen-other (at + loggedPlace) (omega arith)) (k .logged-below t g);
         last-below = omega (arith, risen-last k);
         apart = λ t g.
-            rw (risen-other (at + 192) (omega arith))
-            (k .apart t (rw (risen-other (at + 193) (omega arith)) at g));
+            rw (risen-other (at + pendingPlace) (omega arith))
+            (k .apart t (rw (risen-other (at + loggedPlace) (omega arith)) at g));
         logged-is = λ t.
-            ap (logged t) (risen-log k) ∙ k .logged-is t ∙ sym (ap (λ (x : ℕ). has x t) (risen-other (at + 193) (omega arith)));
+            ap (logged t) (risen-log k) ∙ k .logged-is t ∙ sym (ap (λ (x : ℕ). has x t) (risen-other (at + loggedPlace) (omega arith)));
         distinct = subst Distinct (sym (risen-log k)) (k .distinct);
       }
 
@@ -168,7 +164,7 @@ module _ (b : List ℕ) (at m : ℕ) where
 
 module _ (b : List ℕ) (at t e p l : ℕ) where
   abbrev pub entered : List ℕ
-  entered = set (set (set b (at + 128 + e) t) (at + 192) p) (at + 193) l
+  entered = set (set (set b (at + logPlace + e) t) (at + pendingPlace) p) (at + loggedPlace) l
 
 module _
     (c : ℕ) (b : List ℕ) (at t e p l : ℕ) (k : Kept c b at) (is-pending : has (pendingSet b at) t ≡ true) (h : t < c)
@@ -191,42 +187,42 @@ module _
   pub entered-wrote : Wrote at b (entered b at t e p l)
   entered-wrote =
       let r = entered-room in
-      wrote-three b at (at + 128 + e) (at + 192) (at + 193) t p l (omega arith) (omega arith) (omega arith) (omega arith) (omega arith) (omega arith)
+      wrote-three b at (at + logPlace + e) (at + pendingPlace) (at + loggedPlace) t p l (omega arith) (omega arith) (omega arith) (omega arith) (omega arith) (omega arith)
 
-  entered-other : (i : ℕ) → (i ≡ at + 128 + e → ⊥) → (i ≡ at + 192 → ⊥) → (i ≡ at + 193 → ⊥) → getD (entered b at t e p l) i 0 ≡ getD b i 0
-  entered-other = other-than b (at + 128 + e) (at + 192) (at + 193) t p l
+  entered-other : (i : ℕ) → (i ≡ at + logPlace + e → ⊥) → (i ≡ at + pendingPlace → ⊥) → (i ≡ at + loggedPlace → ⊥) → getD (entered b at t e p l) i 0 ≡ getD b i 0
+  entered-other = other-than b (at + logPlace + e) (at + pendingPlace) (at + loggedPlace) t p l
 
   entered-logged-set : loggedSet (entered b at t e p l) at ≡ l
   entered-logged-set =
-      getD-set-same (set (set b (at + 128 + e) t) (at + 192) p) (at + 193) l 0
-      (omega (arith, k .fits, length-set (set b (at + 128 + e) t) (at + 192) p, length-set b (at + 128 + e) t))
+      getD-set-same (set (set b (at + logPlace + e) t) (at + pendingPlace) p) (at + loggedPlace) l 0
+      (omega (arith, k .fits, length-set (set b (at + logPlace + e) t) (at + pendingPlace) p, length-set b (at + logPlace + e) t))
 
   entered-pending-set : pendingSet (entered b at t e p l) at ≡ p
   entered-pending-set =
-      getD-set-other (set (set b (at + 128 + e) t) (at + 192) p) (at + 193) (at + 192) l 0 (λ q. omega arith) ∙
-      getD-set-same (set b (at + 128 + e) t) (at + 192) p 0 (omega (arith, k .fits, length-set b (at + 128 + e) t))
+      getD-set-other (set (set b (at + logPlace + e) t) (at + pendingPlace) p) (at + loggedPlace) (at + pendingPlace) l 0 (λ q. omega arith) ∙
+      getD-set-same (set b (at + logPlace + e) t) (at + pendingPlace) p 0 (omega (arith, k .fits, length-set b (at + logPlace + e) t))
 
   entered-last-at : lastAt (entered b at t e p l) at ≡ lastAt b at
   entered-last-at =
       let r = entered-room in
-      entered-other (at + 194) (λ q. omega arith) (λ q. omega arith) (λ q. omega arith)
+      entered-other (at + lastPlace) (λ q. omega arith) (λ q. omega arith) (λ q. omega arith)
 
   entered-term : termAt (entered b at t e p l) at e ≡ t
   entered-term =
       let r = entered-room in
-      getD-set-other (set (set b (at + 128 + e) t) (at + 192) p) (at + 193) (at + 128 + e) l 0 (λ q. omega arith) ∙
-      getD-set-other (set b (at + 128 + e) t) (at + 192) (at + 128 + e) p 0 (λ q. omega arith) ∙
-      getD-set-same b (at + 128 + e) t 0 (omega (arith, k .fits))
+      getD-set-other (set (set b (at + logPlace + e) t) (at + pendingPlace) p) (at + loggedPlace) (at + logPlace + e) l 0 (λ q. omega arith) ∙
+      getD-set-other (set b (at + logPlace + e) t) (at + pendingPlace) (at + logPlace + e) p 0 (λ q. omega arith) ∙
+      getD-set-same b (at + logPlace + e) t 0 (omega (arith, k .fits))
 
   entered-data : (j : ℕ) → j < 64 → dataAt (entered b at t e p l) at j ≡ dataAt b at j
   entered-data j g =
-      ap dataOf (entered-other (at + 64 + j) (λ q. omega arith) (λ q. omega arith) (λ q. omega arith))
+      ap dataOf (entered-other (at + dataPlace + j) (λ q. omega arith) (λ q. omega arith) (λ q. omega arith))
 
   entry-before : (j : ℕ) → j < e → entryAt (entered b at t e p l) at j ≡ entryAt b at j
   entry-before j g =
       let r = entered-room in
       let same : termAt (entered b at t e p l) at j ≡ termAt b at j =
-      entered-other (at + 128 + j) (λ q. omega arith) (λ q. omega arith) (λ q. omega arith) in
+      entered-other (at + logPlace + j) (λ q. omega arith) (λ q. omega arith) (λ q. omega arith) in
       let in-log : has (loggedSet b at) (termAt b at j) ≡ true = term-logged k j (omega arith) in
       λ i.
       record {
@@ -281,7 +277,7 @@ module _
   entered-kept =
       record {
         room = k .room;
-        fits = omega (arith, k .fits, length-three b (at + 128 + e) (at + 192) (at + 193) t p l);
+        fits = omega (arith, k .fits, length-three b (at + logPlace + e) (at + pendingPlace) (at + loggedPlace) t p l);
         pending-below = λ j g. has-rest j ∙ rw (ne-eqb j t (λ q. omega arith)) (k .pending-below j g);
         logged-below = λ j g. has-more j ∙ rw (ne-eqb j t (λ q. omega arith), k .logged-below j g);
         last-below = omega (arith, entered-last-at, k .last-below);
@@ -302,7 +298,7 @@ module _
 
 module _ (b : List ℕ) (at t v d p : ℕ) where
   abbrev pub heldAt : List ℕ
-  heldAt = set (set (set b (at + t) v) (at + 64 + t) d) (at + 192) p
+  heldAt = set (set (set b (at + t) v) (at + dataPlace + t) d) (at + pendingPlace) p
 
 module _
     (c : ℕ) (b : List ℕ) (at t v d p : ℕ) (k : Kept c b at) (absent : has (loggedSet b at) t ≡ false) (h : t < c)
@@ -313,49 +309,49 @@ module _
   pub held-wrote : Wrote at b (heldAt b at t v d p)
   held-wrote =
       let r = inside in
-      wrote-three b at (at + t) (at + 64 + t) (at + 192) v d p (omega arith) (omega arith) (omega arith) (omega arith) (omega arith) (omega arith)
+      wrote-three b at (at + t) (at + dataPlace + t) (at + pendingPlace) v d p (omega arith) (omega arith) (omega arith) (omega arith) (omega arith) (omega arith)
 
-  held-other : (i : ℕ) → (i ≡ at + t → ⊥) → (i ≡ at + 64 + t → ⊥) → (i ≡ at + 192 → ⊥) → getD (heldAt b at t v d p) i 0 ≡ getD b i 0
-  held-other = other-than b (at + t) (at + 64 + t) (at + 192) v d p
+  held-other : (i : ℕ) → (i ≡ at + t → ⊥) → (i ≡ at + dataPlace + t → ⊥) → (i ≡ at + pendingPlace → ⊥) → getD (heldAt b at t v d p) i 0 ≡ getD b i 0
+  held-other = other-than b (at + t) (at + dataPlace + t) (at + pendingPlace) v d p
 
   held-pending-set : pendingSet (heldAt b at t v d p) at ≡ p
   held-pending-set =
-      getD-set-same (set (set b (at + t) v) (at + 64 + t) d) (at + 192) p 0
-      (omega (arith, k .fits, length-set (set b (at + t) v) (at + 64 + t) d, length-set b (at + t) v))
+      getD-set-same (set (set b (at + t) v) (at + dataPlace + t) d) (at + pendingPlace) p 0
+      (omega (arith, k .fits, length-set (set b (at + t) v) (at + dataPlace + t) d, length-set b (at + t) v))
 
   held-logged-set : loggedSet (heldAt b at t v d p) at ≡ loggedSet b at
   held-logged-set =
       let r = inside in
-      held-other (at + 193) (λ q. omega arith) (λ q. omega arith) (λ q. omega arith)
+      held-other (at + loggedPlace) (λ q. omega arith) (λ q. omega arith) (λ q. omega arith)
 
   held-last-at : lastAt (heldAt b at t v d p) at ≡ lastAt b at
   held-last-at =
       let r = inside in
-      held-other (at + 194) (λ q. omega arith) (λ q. omega arith) (λ q. omega arith)
+      held-other (at + lastPlace) (λ q. omega arith) (λ q. omega arith) (λ q. omega arith)
 
   held-votes : votesAt (heldAt b at t v d p) at t ≡ v
   held-votes =
       let r = inside in
-      getD-set-other (set (set b (at + t) v) (at + 64 + t) d) (at + 192) (at + t) p 0 (λ q. omega arith) ∙
-      getD-set-other (set b (at + t) v) (at + 64 + t) (at + t) d 0 (λ q. omega arith) ∙
+      getD-set-other (set (set b (at + t) v) (at + dataPlace + t) d) (at + pendingPlace) (at + t) p 0 (λ q. omega arith) ∙
+      getD-set-other (set b (at + t) v) (at + dataPlace + t) (at + t) d 0 (λ q. omega arith) ∙
       getD-set-same b (at + t) v 0 (omega (arith, k .fits))
 
   held-data : dataAt (heldAt b at t v d p) at t ≡ dataOf d
   held-data =
       let r = inside in
       ap dataOf
-      (getD-set-other (set (set b (at + t) v) (at + 64 + t) d) (at + 192) (at + 64 + t) p 0 (λ q. omega arith) ∙
-      getD-set-same (set b (at + t) v) (at + 64 + t) d 0 (omega (arith, k .fits, length-set b (at + t) v)))
+      (getD-set-other (set (set b (at + t) v) (at + dataPlace + t) d) (at + pendingPlace) (at + dataPlace + t) p 0 (λ q. omega arith) ∙
+      getD-set-same (set b (at + t) v) (at + dataPlace + t) d 0 (omega (arith, k .fits, length-set b (at + t) v)))
 
   pub held-log : logOf (heldAt b at t v d p) at ≡ logOf b at
   held-log =
       let r = inside in
       log-same k (heldAt b at t v d p) held-logged-set
-      (λ j g. held-other (at + 128 + j) (λ q. omega arith) (λ q. omega arith) (λ q. omega arith))
+      (λ j g. held-other (at + logPlace + j) (λ q. omega arith) (λ q. omega arith) (λ q. omega arith))
       (λ j y.
       let g = logged-lt k j y in
       let ne : j ≡ t → ⊥ = λ q. true≢false (sym y ∙ ap (has (loggedSet b at)) q ∙ absent) in
-      ap dataOf (held-other (at + 64 + j) (λ q. omega arith) (λ q. ne (omega arith)) (λ q. omega arith)))
+      ap dataOf (held-other (at + dataPlace + j) (λ q. omega arith) (λ q. ne (omega arith)) (λ q. omega arith)))
 
   has-held : (j : ℕ) → has (pendingSet (heldAt b at t v d p) at) j ≡ (has (pendingSet b at) j || eqb j t)
   has-held j = ap (λ (x : ℕ). has x j) (held-pending-set ∙ more) ∙ has-with (pendingSet b at) t j
@@ -376,7 +372,7 @@ module _
       let r = inside in
       let ne : j ≡ t → ⊥ = eqb-false j t q in (
         held-other (at + j) (λ z. ne (omega arith)) (λ z. omega arith) (λ z. omega arith),
-        ap dataOf (held-other (at + 64 + j) (λ z. omega arith) (λ z. ne (omega arith)) (λ z. omega arith)),
+        ap dataOf (held-other (at + dataPlace + j) (λ z. omega arith) (λ z. ne (omega arith)) (λ z. omega arith)),
       )))
       (has-held j)
 
@@ -387,7 +383,7 @@ module _
   held-kept =
       record {
         room = k .room;
-        fits = omega (arith, k .fits, length-three b (at + t) (at + 64 + t) (at + 192) v d p);
+        fits = omega (arith, k .fits, length-three b (at + t) (at + dataPlace + t) (at + pendingPlace) v d p);
         pending-below = λ j g. has-held j ∙ rw (ne-eqb j t (λ q. omega arith), k .pending-below j g);
         logged-below = λ j g. ap (λ (x : ℕ). has x j) held-logged-set ∙ k .logged-below j g;
         last-below = omega (arith, held-last-at, k .last-below);

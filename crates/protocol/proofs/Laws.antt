@@ -17,12 +17,12 @@ use Rattle.phy.specs.declared.packet.Packet.{Packet}
 use Rattle.protocol.specs.Paxos.{Entry, Pending, State, logged, held, isSome, put, hold, holdNew, voted, union, vote, mergeVotesUpTo, entry, raise, commitTerm, commitBelow, commitTo}
 use Rattle.protocol.specs.Turns.{propose, accepted, announce, initiatorTurn, takeData, takeVotes, takePiggyback, participantTurn}
 use Rattle.protocol.specs.View.{Distinct}
-use Rattle.protocol.specs.Growth.{Extends, Rises, Stands, Apart, dataFor, ownPending, ownLog, Own}
+use Rattle.protocol.specs.Growth.{Extends, Rises, StaysPending, Apart, dataFor, ownPending, ownLog, Own}
 use Rattle.protocol.proofs.Places.{same-or, either}
 use Rattle.protocol.proofs.Logs.{logged-append, distinct-append, or-left}
 use Rattle.protocol.proofs.Sets.{union-bit}
 use Rattle.protocol.proofs.Commit.{one-logged}
-use Rattle.protocol.proofs.Idempotent.{by-log, extends-trans, extends-logged, term-extends, rises-trans, term-rises}
+use Rattle.protocol.proofs.Growing.{by-log, extends-trans, extends-logged, term-extends, rises-trans, term-rises}
 
 -- ---- what the steps keep, the turns keep
 
@@ -120,7 +120,7 @@ last-rises l =
 
 -- ---- votes only grow while pending
 
-held-stands : (t : ℕ) (p : Pending) (s : State) → Stands t p s → held t s ≡ true
+held-stands : (t : ℕ) (p : Pending) (s : State) → StaysPending t p s → held t s ≡ true
 held-stands t p s (inl w) = ap (λ (o : Option Pending). logged t (s .log) || isSome o) (w .1) ∙ or-true (logged t (s .log))
 held-stands t p s (inr w) = ap (λ (b : Bool). b || isSome (s .pending t)) (w .0)
 
@@ -128,19 +128,19 @@ entry-logged : (t : ℕ) (q : Pending) → logged t (entry t (some q)) ≡ true
 unfolding logged
 entry-logged t q = ap (λ (b : Bool). b || false) (eq-eqb t t refl)
 
-pub votes-stand : (t : ℕ) (p : Pending) → Keeps Any (Stands t p)
+pub votes-stand : (t : ℕ) (p : Pending) → Keeps Any (StaysPending t p)
 unfolding hold mergeVotesUpTo
 votes-stand t p =
     record {
-      commits = λ u s q. by-log (Stands t p) u s (λ e. q) (λ e. entered u s (either (eqb t u)) q);
+      commits = λ u s q. by-log (StaysPending t p) u s (λ e. q) (λ e. entered u s (either (eqb t u)) q);
       holds = λ u v d s e a q.
           let other = ne-eqb t u (λ g. true≢false (sym (held-stands t p s q) ∙ ap (λ (j : ℕ). held j s) g ∙ e)) in
           holding u v d s other q;
       merges = λ u f s q. merging u f s (leb t u) refl q;
     }
   where
-    entered : (u : ℕ) (s : State) → (eqb t u ≡ true) ⊎ (eqb t u ≡ false) → Stands t p s →
-        Stands t p (record { log = s .log ++ entry u (s .pending u); pending = put u none (s .pending); last = raise u (s .last) })
+    entered : (u : ℕ) (s : State) → (eqb t u ≡ true) ⊎ (eqb t u ≡ false) → StaysPending t p s →
+        StaysPending t p (record { log = s .log ++ entry u (s .pending u); pending = put u none (s .pending); last = raise u (s .last) })
     entered u s (inl e) (inl w) =
         inr (
           logged-append t (s .log) (entry u (s .pending u)) ∙
@@ -162,11 +162,11 @@ votes-stand t p =
           ap (λ (b : Bool). cond b none (s .pending t)) e ∙ w .1,
         )
 
-    holding : (u v : ℕ) (d : Data) (s : State) → eqb t u ≡ false → Stands t p s → Stands t p (hold u v d s)
+    holding : (u v : ℕ) (d : Data) (s : State) → eqb t u ≡ false → StaysPending t p s → StaysPending t p (hold u v d s)
     holding u v d s e (inl w) = inl (w .0, ap (λ (b : Bool). cond b (some (record { votes = v; payload = d })) (s .pending t)) e ∙ w .1, w .2, w .3)
     holding u v d s e (inr w) = inr (w .0, ap (λ (b : Bool). cond b (some (record { votes = v; payload = d })) (s .pending t)) e ∙ w .1)
 
-    merging : (u f : ℕ) (s : State) (b : Bool) → leb t u ≡ b → Stands t p s → Stands t p (mergeVotesUpTo u f s)
+    merging : (u f : ℕ) (s : State) (b : Bool) → leb t u ≡ b → StaysPending t p s → StaysPending t p (mergeVotesUpTo u f s)
     merging u f s true e (inl w) =
         inl (
           record { votes = union (w .0 .votes) f; payload = w .0 .payload },

@@ -6,7 +6,7 @@
 --     Frame      a node's numbers among those of a slice: stores, what depends on them alone, and the first state
 --     Kept       each step on a node's numbers: the state that it gives, and what it keeps
 --     Commit     laws of commits and of the searches
---     Idempotent a commit is idempotent, and monotone in its bound
+--     Growing    a commit lets logs and last accepted only grow
 --     Steps      each function as its definition has it
 --     Merges     votes that are merged, term by term
 --     Chains     the turns' steps put together
@@ -20,7 +20,7 @@ pub mod Words
 pub mod Frame
 pub mod Kept
 pub mod Commit
-pub mod Idempotent
+pub mod Growing
 pub mod Steps
 pub mod Merges
 pub mod Chains

@@ -15,6 +15,8 @@ use Rattle.network.specs.Graph.{has, setOf}
 use Rattle.network.proofs.Sets.{never, and-both, has-below}
 use Rattle.phy.specs.declared.packet.Data.{Data}
 use Rattle.phy.proofs.Masks.{has-and}
+use Rattle.config.specs.Limits.{maxTerms}
+use Rattle.protocol.specs.Layout.{dataPlace, logPlace, pendingPlace, loggedPlace, lastPlace}
 use Rattle.protocol.specs.Paxos.{Pending, union, voted, mergeVotesUpTo}
 use Rattle.protocol.specs.View.{dataOf, lastOf, votesAt, dataAt, pendingSet, loggedSet, lastAt, logOf, pendingOf, view, Kept, Next}
 use Rattle.protocol.proofs.Places.{either, same-or}
@@ -49,7 +51,7 @@ module _ (at : ℕ) (b : List ℕ) (f i t : ℕ) (b' : List ℕ) (m : Merged at 
       }
 
   -- s is the set of the pending terms up to u, and these terms go from its lowest to its highest
-  pub merge-next : (u s : ℕ) → Kept 64 b at → t ≤ 64 → s ≡ bitAnd (pendingSet b at) (setOf 64 (λ (k : ℕ). leb k u)) →
+  pub merge-next : (u s : ℕ) → Kept maxTerms b at → t ≤ 64 → s ≡ bitAnd (pendingSet b at) (setOf 64 (λ (k : ℕ). leb k u)) →
       ((j : ℕ) → j < i → has s j ≡ false) → s < 2 ^ t → (i < t → has s (t - 1) ≡ true) →
       Next (λ c. Unit {0}) at b b' (mergeVotesUpTo u f (view b at))
   unfolding mergeVotesUpTo
@@ -61,18 +63,18 @@ module _ (at : ℕ) (b : List ℕ) (f i t : ℕ) (b' : List ℕ) (m : Merged at 
       }
     where
       pend : pendingSet b' at ≡ pendingSet b at
-      pend = m .behind (at + 192) (omega arith)
+      pend = m .behind (at + pendingPlace) (omega arith)
 
       logd : loggedSet b' at ≡ loggedSet b at
-      logd = m .behind (at + 193) (omega arith)
+      logd = m .behind (at + loggedPlace) (omega arith)
 
       lst : lastAt b' at ≡ lastAt b at
-      lst = m .behind (at + 194) (omega arith)
+      lst = m .behind (at + lastPlace) (omega arith)
 
       log : logOf b' at ≡ logOf b at
       log =
-          log-same k b' logd (λ j h. m .behind (at + 128 + j) (omega arith))
-          (λ j h. ap dataOf (m .behind (at + 64 + j) (omega arith)))
+          log-same k b' logd (λ j h. m .behind (at + logPlace + j) (omega arith))
+          (λ j h. ap dataOf (m .behind (at + dataPlace + j) (omega arith)))
 
       has-s : (j : ℕ) → j < 64 → has s j ≡ (has (pendingSet b at) j && leb j u)
       has-s j h =
@@ -105,7 +107,7 @@ module _ (at : ℕ) (b : List ℕ) (f i t : ℕ) (b' : List ℕ) (m : Merged at 
           (λ e.
           rw (pending-at b at j e)
           (pending-at b' at j (ap (λ (x : ℕ). has x j) pend ∙ e) ∙
-          ap (λ (d : Data). some (record { votes = votesAt b' at j; payload = d })) (ap dataOf (m .behind (at + 64 + j) (omega arith))) ∙
+          ap (λ (d : Data). some (record { votes = votesAt b' at j; payload = d })) (ap dataOf (m .behind (at + dataPlace + j) (omega arith))) ∙
           merged j e (either (leb j u))))
           (λ e. rw (pending-none b at j e) (pending-none b' at j (ap (λ (x : ℕ). has x j) pend ∙ e)))
           (either (has (pendingSet b at) j))

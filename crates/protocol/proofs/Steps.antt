@@ -16,19 +16,27 @@ use lib.Pow.{pow-pos, pow-mono}
 use Rattle.network.specs.Graph.{has, setOf}
 use Rattle.network.proofs.Sets.{set-ext, and-both}
 use Rattle.network.proofs.Lowest.{has-minus}
+use Rattle.network.specs.declared.units.Term.{Term}
 use Rattle.phy.specs.declared.packet.Data.{Data}
+use Rattle.phy.specs.declared.packet.Nack.{Nack}
 use Rattle.phy.specs.declared.packet.Piggyback.{Piggyback}
+use Rattle.config.specs.Limits.{maxTerms}
+use Rattle.protocol.specs.Layout.{pendingPlace, lastPlace}
 use Rattle.protocol.specs.Paxos.{Entry, Pending, State, logged, held, hold, holdNew, isSome, put, entry, raise, after, commitTerm, commitBelow, newlyUpTo, termSet, dataIn, reply, recovery}
 use Rattle.protocol.specs.View.{dataOf, codeOf, lastOf, votesAt, dataAt, pendingSet, loggedSet, lastAt, entryAt, logOf, pendingOf, view, dataBelow, Kept, Wrote, Next}
 use Rattle.protocol.proofs.Places.{either, same-or}
 use Rattle.protocol.proofs.Logs.{or-left, find-by-term}
 use Rattle.protocol.proofs.Words.{has-reach, reach-is}
 use Rattle.protocol.proofs.Commit.{commit-next, commit-past, newly-bit, newly-lt, below-other}
-use Rattle.protocol.proofs.Frame.{wrote-none, wrote-then, wrote-set}
-use Rattle.protocol.proofs.Kept.{state-is, held-is, pending-none, last-raise, risen, risen-other, risen-log, risen-pending, risen-last, risen-kept, entered, entered-room, entered-wrote, entered-view, entered-pending, entered-last, entered-kept, heldAt, held-wrote, held-log, held-pending, held-last, held-kept}
+use Rattle.protocol.proofs.Frame.{wrote-none, wrote-then, wrote-set, state-is}
+use Rattle.protocol.proofs.Kept.{held-is, pending-none, last-raise, risen, risen-other, risen-log, risen-pending, risen-last, risen-kept, entered, entered-room, entered-wrote, entered-view, entered-pending, entered-last, entered-kept, heldAt, held-wrote, held-log, held-pending, held-last, held-kept}
 
 pub next-same : {P : ℕ → Type 0} {at : ℕ} {b : List ℕ} {x : State} → view b at ≡ x → Next P at b b x
 next-same {P} {at} {b} e = record { wrote = wrote-none at b; kept = λ c p k. k; is = e }
+
+-- the same for fewer counters
+pub next-if : {P Q : ℕ → Type 0} {at : ℕ} {b b' : List ℕ} {x : State} → ((c : ℕ) → Q c → P c) → Next P at b b' x → Next Q at b b' x
+next-if f n = record { wrote = n .wrote; kept = λ c q k. n .kept c (f c q) k; is = n .is }
 
 -- no term from 64 on is pending
 pub pending-out : {c : ℕ} {b : List ℕ} {at : ℕ} (t : ℕ) → Kept c b at → 64 ≤ t → pendingOf b at t ≡ none
@@ -40,12 +48,12 @@ after-last (suc x) = omega arith
 
 -- ---- a commit of one term
 
-module _ (b : List ℕ) (at t m : ℕ) (k : Kept 64 b at) (free : has (loggedSet b at) t ≡ false) (is-last : m ≡ max (lastAt b at) (t + 1)) where
+module _ (b : List ℕ) (at t m : ℕ) (k : Kept maxTerms b at) (free : has (loggedSet b at) t ≡ false) (is-last : m ≡ max (lastAt b at) (t + 1)) where
   raised-kept : (c : ℕ) → t < c → Kept c b at → Kept c (risen b at m) at
   raised-kept c h g = risen-kept b at m g (omega (arith, g .last-below))
 
   raised-wrote : Wrote at b (risen b at m)
-  raised-wrote = wrote-set at (at + 194) m b (omega arith) (omega arith)
+  raised-wrote = wrote-set at (at + lastPlace) m b (omega arith) (omega arith)
 
   raised-last : lastOf (lastAt (risen b at m) at) ≡ raise t (lastOf (lastAt b at))
   raised-last = ap lastOf (risen-last b at m k ∙ is-last) ∙ last-raise (lastAt b at) t
@@ -68,14 +76,14 @@ module _ (b : List ℕ) (at t m : ℕ) (k : Kept 64 b at) (free : has (loggedSet
   pub commit-room : t < 64 → has (pendingSet b at) t ≡ true → ones (loggedSet (risen b at m) at) < 64
   commit-room lt held-now =
       entered-room 64 (risen b at m) at t (ones (loggedSet (risen b at m) at)) (pendingSet (risen b at m) at - 2 ^ t) (bitOr (loggedSet (risen b at m) at) (2 ^ t))
-      (raised-kept 64 lt k) (ap (λ (x : ℕ). has x t) (risen-other b at m (at + 192) (omega arith)) ∙ held-now) lt refl refl refl
+      (raised-kept 64 lt k) (ap (λ (x : ℕ). has x t) (risen-other b at m (at + pendingPlace) (omega arith)) ∙ held-now) lt refl refl refl
 
   pub commit-pending : (e p l : ℕ) → t < 64 → has (pendingSet b at) t ≡ true → e ≡ ones (loggedSet (risen b at m) at) →
       p ≡ pendingSet b at - 2 ^ t → l ≡ bitOr (loggedSet (risen b at m) at) (2 ^ t) →
       Next (λ c. t < c) at b (entered (risen b at m) at t e p l) (commitTerm t (view b at))
   unfolding commitTerm
   commit-pending e p l lt held-now is-e is-p is-l =
-      let same = risen-other b at m (at + 192) (omega arith) in
+      let same = risen-other b at m (at + pendingPlace) (omega arith) in
       let here : has (pendingSet (risen b at m) at) t ≡ true = ap (λ (x : ℕ). has x t) same ∙ held-now in
       let rest : p ≡ pendingSet (risen b at m) at - 2 ^ t = is-p ∙ ap (λ (x : ℕ). x - 2 ^ t) (sym same) in
       let now = raised-kept 64 lt k in
@@ -106,7 +114,7 @@ pub has-newly : (u s t : ℕ) → t < 64 → has (newlySet u s) t ≡ (leb t u &
 has-newly u s t h =
     has-minus (setOf 64 (λ (k : ℕ). leb k u)) s t ∙ ap (λ (b : Bool). b && not (has s t)) (has-reach u t h)
 
-pub newly-is : {b : List ℕ} {at : ℕ} (u : ℕ) → Kept 64 b at → u < 64 → newlySet u (loggedSet b at) ≡ termSet (newlyUpTo u (logOf b at))
+pub newly-is : {b : List ℕ} {at : ℕ} (u : ℕ) → Kept maxTerms b at → u < 64 → newlySet u (loggedSet b at) ≡ termSet (newlyUpTo u (logOf b at))
 unfolding has
 newly-is {b} {at} u k h =
     set-ext 64 (lt-of-lt-of-le (newly-word u (loggedSet b at) h) (pow-mono {i = suc u} {j = 64} h))
@@ -127,9 +135,9 @@ newly-is {b} {at} u k h =
 
 -- The terms below t are committed.
 module _
-    (b₀ b : List ℕ) (at u t : ℕ) (k₀ : Kept 64 b₀ at) (lt : u < 64)
+    (b₀ b : List ℕ) (at u t : ℕ) (k₀ : Kept maxTerms b₀ at) (lt : u < 64)
     (so-far : Next (λ c. u < c) at b₀ b (commitBelow t (view b₀ at))) where
-  pub turn-kept : Kept 64 b at
+  pub turn-kept : Kept maxTerms b at
   turn-kept = so-far .kept 64 lt k₀
 
   -- t was logged at the start exactly if it is now
@@ -186,7 +194,7 @@ data-code (Data.Of u) h = rw (lt-ltb (u .0) 64 h)
 pub free-logged : {c : ℕ} {b : List ℕ} {at : ℕ} (t : ℕ) → Kept c b at → held t (view b at) ≡ false → has (loggedSet b at) t ≡ false
 free-logged {c} {b} {at} t k e = or-left (has (loggedSet b at) t) (has (pendingSet b at) t) (sym (held-is k t) ∙ e)
 
-pub hold-next : (b : List ℕ) (at t v m p : ℕ) (d : Data) → Kept 64 b at → t < 64 → dataOf m ≡ d → held t (view b at) ≡ false →
+pub hold-next : (b : List ℕ) (at t v m p : ℕ) (d : Data) → Kept maxTerms b at → t < 64 → dataOf m ≡ d → held t (view b at) ≡ false →
     p ≡ bitOr (pendingSet b at) (2 ^ t) → Next (λ c. t < c) at b (heldAt b at t v m p) (hold t v d (view b at))
 unfolding hold
 hold-next b at t v m p d k lt q e more =
@@ -215,17 +223,18 @@ held-free t k h = held-is k t ∙ ap₂ _||_ (k .logged-below t h) (k .pending-b
 
 -- ---- recovery
 
-pub recovery-view : {c : ℕ} {b : List ℕ} {at : ℕ} (t : ℕ) → Kept c b at → (t ≡ 0 → ⊥) →
-    recovery t (view b at) ≡ cond (held t (view b at)) (Piggyback.Of (record { 0 = t }) (dataAt b at t)) Piggyback.None
+pub recovery-view : (b : List ℕ) (at : ℕ) (u : Term) →
+    recovery (Nack.Of u) (view b at) ≡ cond (held (u .0) (view b at)) (Piggyback.Of u (dataAt b at (u .0))) Piggyback.None
 unfolding recovery logOf pendingOf
-recovery-view zero k n = absurd (n refl)
-recovery-view {c} {b} {at} (suc t) k n =
-    rw (find-by-term (dataAt b at) (suc t) (ones (loggedSet b at)) (entryAt b at) (λ j. refl))
-    (go (logged (suc t) (logOf b at)) (has (pendingSet b at) (suc t)))
+recovery-view b at u =
+    rw (find-by-term (dataAt b at) (u .0) (ones (loggedSet b at)) (entryAt b at) (λ j. refl))
+    (go (logged (u .0) (logOf b at)) (has (pendingSet b at) (u .0)))
   where
-    go : (x y : Bool) →
-        reply (suc t) (dataIn (cond x (some (dataAt b at (suc t))) none) (cond y (some (record { votes = votesAt b at (suc t); payload = dataAt b at (suc t) })) none)) ≡
-        cond (x || isSome (cond y (some (record { votes = votesAt b at (suc t); payload = dataAt b at (suc t) })) none)) (Piggyback.Of (record { 0 = suc t }) (dataAt b at (suc t))) Piggyback.None
+    one : Pending
+    one = record { votes = votesAt b at (u .0); payload = dataAt b at (u .0) }
+
+    go : (x y : Bool) → reply (u .0) (dataIn (cond x (some (dataAt b at (u .0))) none) (cond y (some one) none)) ≡
+        cond (x || isSome (cond y (some one) none)) (Piggyback.Of u (dataAt b at (u .0))) Piggyback.None
     go true y = refl
     go false true = refl
     go false false = refl

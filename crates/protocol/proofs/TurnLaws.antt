@@ -15,18 +15,19 @@ use Rattle.network.specs.Graph.{has}
 use Rattle.random.specs.Table.{tabulate}
 use Rattle.random.proofs.Tables.{length-tabulate}
 use Rattle.phy.specs.declared.packet.Data.{Data}
+use Rattle.phy.specs.declared.packet.Nack.{Nack}
 use Rattle.phy.specs.declared.packet.Piggyback.{Piggyback}
 use Rattle.phy.specs.declared.packet.Packet.{Packet}
 use Rattle.protocol.specs.Paxos.{Entry, Pending, State, logged, held, find, dataIn, reply, recovery}
 use Rattle.protocol.specs.Turns.{currentTerm, proposalData, announce, initiatorTurn, takeVotes, participantTurn}
 use Rattle.protocol.specs.View.{loggedSet, termAt, entryAt, logOf, view, Kept}
-use Rattle.protocol.specs.Growth.{Extends, Rises, Stands, Apart, dataFor, ownPending, ownLog, Own, ownData, ownBack, OwnPacket}
+use Rattle.protocol.specs.Growth.{Extends, Rises, StaysPending, Apart, dataFor, ownPending, ownLog, Own, ownData, ownBack, OwnPacket}
 use Rattle.protocol.proofs.Places.{same-or}
 use Rattle.protocol.proofs.Words.{in-word, ones-with}
 use Rattle.protocol.proofs.Frame.{logged-word}
 use Rattle.protocol.proofs.Kept.{pending-none}
 use Rattle.protocol.proofs.Steps.{held-free}
-use Rattle.protocol.proofs.Idempotent.{extends-refl, rises-refl}
+use Rattle.protocol.proofs.Growing.{extends-refl, rises-refl}
 use Rattle.protocol.proofs.Laws.{Keeps, AskData, AskBack, Any, OwnD, participant-keeps, votes-keeps, initiator-keeps, log-extends, last-rises, votes-stand, kept-apart, kept-own}
 
 -- ---- what a kept state says
@@ -89,8 +90,8 @@ module _ (i : ℕ) (p : Packet) (s : State) where
   pub participant-last : Rises (s .last) (participantTurn i p s .state .last)
   participant-last = kept (λ x. Rises (s .last) (x .last)) (last-rises (s .last)) (rises-refl (s .last))
 
-  pub participant-votes : (t : ℕ) (o : Pending) → Stands t o s → Stands t o (participantTurn i p s .state)
-  participant-votes t o h = kept (Stands t o) (votes-stand t o) h
+  pub participant-votes : (t : ℕ) (o : Pending) → StaysPending t o s → StaysPending t o (participantTurn i p s .state)
+  participant-votes t o h = kept (StaysPending t o) (votes-stand t o) h
 
   pub participant-apart : Apart s → Apart (participantTurn i p s .state)
   participant-apart = kept Apart kept-apart
@@ -107,8 +108,8 @@ module _ (i n c : ℕ) (b : Bool) (pb : Piggyback) (s : State) (free : held c s 
   pub initiator-last : Rises (s .last) (initiatorTurn i n c b pb s .state .last)
   initiator-last = made (λ x. Rises (s .last) (x .last)) (last-rises (s .last)) (rises-refl (s .last))
 
-  pub initiator-votes : (t : ℕ) (o : Pending) → Stands t o s → Stands t o (initiatorTurn i n c b pb s .state)
-  initiator-votes t o h = made (Stands t o) (votes-stand t o) h
+  pub initiator-votes : (t : ℕ) (o : Pending) → StaysPending t o s → StaysPending t o (initiatorTurn i n c b pb s .state)
+  initiator-votes t o h = made (StaysPending t o) (votes-stand t o) h
 
   pub initiator-apart : Apart s → Apart (initiatorTurn i n c b pb s .state)
   initiator-apart = made Apart kept-apart
@@ -148,16 +149,16 @@ reply-own t (some d) q h g = h
 reply-own t none none h g = tt
 reply-own t none (some p) h g = g
 
-recovery-own : (t : ℕ) (s : State) → Own s → ownBack (recovery t s)
+recovery-own : (n : Nack) (s : State) → Own s → ownBack (recovery n s)
 unfolding recovery
-recovery-own zero s h = tt
-recovery-own (suc t) s h =
-    reply-own (suc t) (find (suc t) (s .log)) (s .pending (suc t)) (find-own (suc t) (s .log) (h .log)) (h .pending (suc t))
+recovery-own Nack.None s h = tt
+recovery-own (Nack.Of t) s h =
+    reply-own (t .0) (find (t .0) (s .log)) (s .pending (t .0)) (find-own (t .0) (s .log) (h .log)) (h .pending (t .0))
 
 pub participant-recovered : (i : ℕ) (p : Packet) (s : State) → OwnPacket p → Own s → ownBack (participantTurn i p s .recovered)
 unfolding participantTurn
 participant-recovered i p s o h =
-    recovery-own (p .«nack_term» .0) (takeVotes i p s)
+    recovery-own (p .«nack_term») (takeVotes i p s)
     (votes-keeps OwnD Own kept-own i p s (ask-data (p .«current_term» .0) (p .«proposal_data») (o .proposal)) h)
 
 own-proposal : (b : Bool) (c : ℕ) → ownData (currentTerm b c) (proposalData b c)

@@ -9,7 +9,7 @@ use Rattle.phy.specs.declared.packet.Data.{Data}
 use Rattle.phy.specs.declared.packet.LastAccepted.{LastAccepted}
 use Rattle.phy.specs.declared.packet.Piggyback.{Piggyback}
 use Rattle.phy.specs.declared.packet.Packet.{Packet}
-use Rattle.protocol.specs.Paxos.{Entry, Pending, State, logged}
+use Rattle.protocol.specs.Paxos.{Entry, Pending, State, wordBits, logged}
 use Rattle.protocol.specs.View.{Distinct}
 
 -- m begins with l: nothing of l is removed or reordered
@@ -22,13 +22,13 @@ Rises LastAccepted.None l = Unit {0}
 Rises (LastAccepted.At u) LastAccepted.None = ⊥
 Rises (LastAccepted.At u) (LastAccepted.At v) = u .0 ≤ v .0
 
--- each of 64 nodes that is in a is in b
+-- each node that is in a is in b
 abbrev pub Subset : ℕ → ℕ → Type 0
-Subset a b = (i : ℕ) → i < 64 → a / 2 ^ i % 2 ≤ b / 2 ^ i % 2
+Subset a b = (i : ℕ) → i < wordBits → a / 2 ^ i % 2 ≤ b / 2 ^ i % 2
 
 -- t is pending in s with the data of p and with all its votes, or it is logged and pending no more
-abbrev pub Stands : ℕ → Pending → State → Type 0
-Stands t p s =
+abbrev pub StaysPending : ℕ → Pending → State → Type 0
+StaysPending t p s =
     ((q : Pending) × (s .pending t ≡ some q) × Subset (p .votes) (q .votes) × (q .payload ≡ p .payload)) ⊎
     ((logged t (s .log) ≡ true) × (s .pending t ≡ none))
 

@@ -1,8 +1,10 @@
 -- What is right for the crate `protocol`.
+--     Layout   where a node's numbers stand
 --     Paxos    a node's state in document 01's words, and what is done with it
 --     Turns    the initiator's turn and a participant's
 --     View     the state that a node's numbers stand for, and what holds of them
 --     Growth   how a state changes in a turn; terms that carry their own data
+pub mod Layout
 pub mod Paxos
 pub mod Turns
 pub mod View

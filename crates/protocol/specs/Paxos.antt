@@ -8,6 +8,7 @@ use lib.Dec.{leb, eqb}
 use lib.Count.{onesIn}
 use Rattle.phy.specs.declared.packet.Data.{Data}
 use Rattle.phy.specs.declared.packet.LastAccepted.{LastAccepted}
+use Rattle.phy.specs.declared.packet.Nack.{Nack}
 use Rattle.phy.specs.declared.packet.Piggyback.{Piggyback}
 use Rattle.protocol.specs.declared.paxos.Gap.{Gap}
 
@@ -31,7 +32,11 @@ pub record State : Type 0 where
 abbrev pub empty : State
 empty = record { log = []; pending = λ t. none; last = LastAccepted.None }
 
--- ---- sets of nodes, as words of 64 bits
+-- ---- sets of nodes, as words
+
+-- how many bits a word has
+abbrev pub wordBits : ℕ
+wordBits = 64
 
 -- the union, of the lowest k bits
 unfoldable pub unionIn : ℕ → ℕ → ℕ → ℕ
@@ -40,12 +45,12 @@ unionIn (suc k) a b = unionIn k (a / 2) (b / 2) * 2 + max (a % 2) (b % 2)
 
 unfoldable pub union : ℕ → ℕ → ℕ
 unfolding unionIn
-union a b = unionIn 64 a b
+union a b = unionIn wordBits a b
 
 -- how many nodes are in a set
 unfoldable pub size : ℕ → ℕ
 unfolding onesIn
-size a = onesIn 64 a
+size a = onesIn wordBits a
 
 -- the set of node i alone
 abbrev pub vote : ℕ → ℕ
@@ -196,7 +201,7 @@ abbrev pub reply : ℕ → Option Data → Piggyback
 reply t none = Piggyback.None
 reply t (some d) = Piggyback.Of (record { 0 = t }) d
 
--- a NACKed term with its data, if the node holds it; 0 is no NACK
-unfoldable pub recovery : ℕ → State → Piggyback
-recovery zero s = Piggyback.None
-recovery (suc t) s = reply (suc t) (dataIn (find (suc t) (s .log)) (s .pending (suc t)))
+-- a NACKed term with its data, if the node holds it
+unfoldable pub recovery : Nack → State → Piggyback
+recovery Nack.None s = Piggyback.None
+recovery (Nack.Of t) s = reply (t .0) (dataIn (find (t .0) (s .log)) (s .pending (t .0)))

@@ -1,11 +1,14 @@
 -- The two turns of a node, each a function of the node's own state: what it does as the initiator of a round, and
 -- what it does with the packet of a round that it took part in.
 use Prim.Native.Nat.{ℕ, _+_, _-_}
-use mathlib.Core.Bool.{Bool, true, false}
+use mathlib.Core.Bool.{Bool, true, false, cond}
 use mathlib.Core.List.{List}
 use mathlib.Core.Option.{Option, none, some}
+use lib.Dec.{eqb}
+use Rattle.config.specs.Limits.{maxTerms}
 use Rattle.phy.specs.declared.packet.Data.{Data}
 use Rattle.phy.specs.declared.packet.LastAccepted.{LastAccepted}
+use Rattle.phy.specs.declared.packet.Nack.{Nack}
 use Rattle.phy.specs.declared.packet.Piggyback.{Piggyback}
 use Rattle.phy.specs.declared.packet.Packet.{Packet}
 use Rattle.protocol.specs.declared.paxos.Gap.{Gap}
@@ -38,35 +41,35 @@ abbrev pub proposalData : Bool → ℕ → Data
 proposalData true c = Data.Of (record { 0 = c })
 proposalData false c = Data.Empty
 
--- the NACK for a gap: its term, 0 means none
-abbrev pub nack : Gap → ℕ
-nack Gap.None = 0
-nack (Gap.At t) = t .0
+-- the NACK for a gap: its term, where that is above 0
+abbrev pub nack : Gap → Nack
+nack Gap.None = Nack.None
+nack (Gap.At t) = cond (eqb (t .0) 0) Nack.None (Nack.Of t)
 
 abbrev pub votesOf : Option Pending → ℕ
 votesOf none = 0
 votesOf (some p) = p .votes
 
--- the greatest pending quorum, of 64 terms
+-- the greatest pending quorum
 abbrev pub accepted : ℕ → State → LastAccepted
-accepted n s = greatestQuorum 64 n s
+accepted n s = greatestQuorum maxTerms n s
 
 -- The packet that the initiator sends from its state s, for the current term t with the data d and the NACK g. Its flags
 -- are the votes of the current term if that is still pending, and always the initiator's own.
-abbrev pub packetOf : ℕ → ℕ → ℕ → Data → Piggyback → State → Packet
+abbrev pub packetOf : ℕ → ℕ → Nack → Data → Piggyback → State → Packet
 packetOf i t g d pb s =
     record {
       «current_term» = record { 0 = t };
       «last_accepted_term» = s .last;
       «flags_bitmap» = union (votesOf (s .pending t)) (vote i);
-      «nack_term» = record { 0 = g };
+      «nack_term» = g;
       sender = record { 0 = i };
       «proposal_data» = d;
       piggyback = pb;
     }
 
 -- With the proposal made: commit up to the greatest pending quorum, then build the packet.
-unfoldable pub announce : ℕ → ℕ → ℕ → ℕ → Data → Piggyback → State → Initiated
+unfoldable pub announce : ℕ → ℕ → ℕ → Nack → Data → Piggyback → State → Initiated
 announce i n t g d pb s =
     record {
       state = commitTo (accepted n s) s;
@@ -112,5 +115,5 @@ participantTurn i p s =
     record {
       state = takePiggyback (vote i) (p .piggyback) (takeVotes i p s);
       newly = newlyTo (p .«last_accepted_term») (s .log);
-      recovered = recovery (p .«nack_term» .0) (takeVotes i p s);
+      recovered = recovery (p .«nack_term») (takeVotes i p s);
     }

@@ -1,29 +1,31 @@
 // A node's turns, after what the source's sim/paxos_pipeline.rs does with one node: `prepare_round`
 // with the initiator, `process_round` with each node that took part.
+use crate::bits::joined;
 use crate::paxos::Gap;
 use crate::paxos::commit_to;
 use crate::paxos::detect_gap;
 use crate::paxos::greatest_quorum;
 use crate::paxos::hold;
 use crate::paxos::hold_new;
-use crate::paxos::joined;
-use crate::paxos::last_of;
 use crate::paxos::merge_votes_up_to;
 use crate::paxos::recover;
 use crate::paxos::votes_of;
+use crate::state::last_accepted;
 use network::units::NodeId;
 use network::units::Term;
 use phy::packet::Data;
+use phy::packet::Nack;
 use phy::packet::Packet;
 use phy::packet::Piggyback;
 ghost use mathlib.Core.Path.{_≡_};
 ghost use Prim.Native.Nat.{_-_, _<_, _≤_};
-ghost use Rattle.protocol.specs.Paxos.{vote};
-ghost use Rattle.protocol.specs.Turns.{nack, counted, currentTerm, proposalData, propose, announce, initiatorTurn, takeData, takePiggyback, participantTurn};
-ghost use Rattle.protocol.specs.View.{view, Wrote, Kept, Next, Carried, proposalBelow, backBelow, Announces, Initiates, Takes};
+ghost use Rattle.config.specs.Limits.{maxTerms};
+ghost use Rattle.protocol.specs.Paxos.{wordBits, vote};
+ghost use Rattle.protocol.specs.Turns.{nack, counted, currentTerm, proposalData, propose, announce, takeData, takePiggyback};
+ghost use Rattle.protocol.specs.View.{Kept, Step, Reaches, TermsBelow, MayInitiate, proposalBelow, backBelow, Announces, Initiates, Takes};
 
 // What the initiator's turn gives beside its state: the packet, and the set of terms newly committed.
-pub struct Prepared {
+pub struct Announced {
     pub packet: Packet,
     pub newly: u64,
 }
@@ -37,20 +39,23 @@ pub struct Received {
 
 // The set of one node alone.
 fn vote_of(node: NodeId) -> u64
-    requires { ⌜ node .0 < 64 ⌝ }
+    requires { ⌜ node .0 < wordBits ⌝ }
     ensures { λ r. ⌜ r ≡ vote (node .0) ⌝ }
 {
     1u64 << node.0
 }
 
-// The NACK for a gap: its term, 0 for none.
-fn nack_of(gap: Gap) -> Term
-    ensures { λ r. ⌜ r .0 ≡ nack gap ⌝ }
+// The NACK for a gap: its term, where that is above 0.
+fn nack_of(gap: Gap) -> Nack
+    ensures { λ r. ⌜ r ≡ nack gap ⌝ }
 {
-    match gap {
-        Gap::None => Term(0),
-        Gap::At(t) => t,
+    let Gap::At(t) = gap else {
+        return Nack::None;
+    };
+    if t.0 == 0 {
+        return Nack::None;
     }
+    Nack::Of(t)
 }
 
 // The term before the counter, 0 at 0.
@@ -70,24 +75,24 @@ fn announce(
     node: NodeId,
     n: usize,
     current: Term,
-    nack: Term,
+    nack: Nack,
     data: Data,
     piggyback: Piggyback,
-) -> Prepared
-    requires { ⌜ Kept 64 (now states) at × (node .0 < 64) × (2 ≤ n) ⌝ }
-    ensures { λ r. ⌜ Announces at (now (states .entry)) r (now (states .exit)) (announce (node .0) n (current .0) (nack .0) «data» piggyback (view (now (states .entry)) at)) ⌝ }
+) -> Announced
+    requires { ⌜ Kept maxTerms (now states) at × (node .0 < wordBits) × (2 ≤ n) ⌝ }
+    ensures { λ r. ⌜ Announces at (announce (node .0) n (current .0) nack «data» piggyback) (now (states .entry)) r (now (states .exit)) ⌝ }
 {
     let newly = commit_to(states, at, greatest_quorum(states, at, node, n));
     let packet = Packet {
         current_term: current,
-        last_accepted_term: last_of(states[at + 194]),
+        last_accepted_term: last_accepted(states, at),
         flags_bitmap: joined(votes_of(states, at, current), vote_of(node)),
         nack_term: nack,
         sender: node,
         proposal_data: data,
         piggyback: piggyback,
     };
-    Prepared { packet, newly }
+    Announced { packet, newly }
 }
 
 // The current term: the new proposal's, else the one before the counter.
@@ -112,8 +117,8 @@ fn proposal_data(counter: u64, proposes: bool) -> Data
 
 // A new proposal, if one is made, becomes pending with the node's own vote.
 fn propose(states: &mut [u64], at: usize, node: NodeId, counter: u64, proposes: bool)
-    requires { ⌜ Kept counter (now states) at × (counted proposes counter ≤ 64) × (node .0 < 64) ⌝ }
-    ensures { λ _. ⌜ Wrote at (now (states .entry)) (now (states .exit)) × Kept (counted proposes counter) (now (states .exit)) at × (view (now (states .exit)) at ≡ propose proposes (node .0) counter (view (now (states .entry)) at)) ⌝ }
+    requires { ⌜ Kept counter (now states) at × (counted proposes counter ≤ maxTerms) × (node .0 < wordBits) ⌝ }
+    ensures { λ _. ⌜ Reaches (counted proposes counter) at (propose proposes (node .0) counter) (now (states .entry)) (now (states .exit)) ⌝ }
 {
     if proposes {
         let data = Data::Of(Term(counter));
@@ -131,9 +136,9 @@ pub fn initiator_turn(
     counter: u64,
     proposes: bool,
     piggyback: Piggyback,
-) -> Prepared
-    requires { ⌜ Kept counter (now states) at × ((counted proposes counter ≤ 64) × (node .0 < 64) × (2 ≤ n)) ⌝ }
-    ensures { λ r. ⌜ Initiates proposes counter piggyback at (now (states .entry)) r (now (states .exit)) (initiatorTurn (node .0) n counter proposes piggyback (view (now (states .entry)) at)) ⌝ }
+) -> Announced
+    requires { ⌜ MayInitiate (node .0) n counter proposes (now states) at ⌝ }
+    ensures { λ r. ⌜ Initiates at (node .0) n counter proposes piggyback (now (states .entry)) r (now (states .exit)) ⌝ }
 {
     let nack = nack_of(detect_gap(states, at, Term(counter)));
     propose(states, at, node, counter, proposes);
@@ -144,8 +149,8 @@ pub fn initiator_turn(
 
 // Received proposal data becomes pending.
 fn take_data(states: &mut [u64], at: usize, term: Term, votes: u64, d: Data)
-    requires { ⌜ Kept 64 (now states) at × proposalBelow 64 (term .0) d ⌝ }
-    ensures { λ _. ⌜ Next (λ c. proposalBelow c (term .0) d) at (now (states .entry)) (now (states .exit)) (takeData (term .0) votes d (view (now (states .entry)) at)) ⌝ }
+    requires { ⌜ Kept maxTerms (now states) at × proposalBelow maxTerms (term .0) d ⌝ }
+    ensures { λ _. ⌜ Step (λ c. proposalBelow c (term .0) d) at (takeData (term .0) votes d) (now (states .entry)) (now (states .exit)) ⌝ }
 {
     match d {
         Data::Empty => {}
@@ -155,8 +160,8 @@ fn take_data(states: &mut [u64], at: usize, term: Term, votes: u64, d: Data)
 
 // A piggyback's data becomes pending.
 fn take_piggyback(states: &mut [u64], at: usize, votes: u64, piggyback: Piggyback)
-    requires { ⌜ Kept 64 (now states) at × backBelow 64 piggyback ⌝ }
-    ensures { λ _. ⌜ Next (λ c. backBelow c piggyback) at (now (states .entry)) (now (states .exit)) (takePiggyback votes piggyback (view (now (states .entry)) at)) ⌝ }
+    requires { ⌜ Kept maxTerms (now states) at × backBelow maxTerms piggyback ⌝ }
+    ensures { λ _. ⌜ Step (λ c. backBelow c piggyback) at (takePiggyback votes piggyback) (now (states .entry)) (now (states .exit)) ⌝ }
 {
     match piggyback {
         Piggyback::None => {}
@@ -167,8 +172,8 @@ fn take_piggyback(states: &mut [u64], at: usize, votes: u64, piggyback: Piggybac
 // A participant's turn: what a node does with the packet that it holds after the flood. The flags
 // and then the own vote are merged in one pass, as their union.
 pub fn participant_turn(states: &mut [u64], at: usize, node: NodeId, packet: Packet) -> Received
-    requires { ⌜ Kept 64 (now states) at × (Carried 64 packet × (node .0 < 64)) ⌝ }
-    ensures { λ r. ⌜ Takes at (now (states .entry)) packet r (now (states .exit)) (participantTurn (node .0) packet (view (now (states .entry)) at)) ⌝ }
+    requires { ⌜ Kept maxTerms (now states) at × TermsBelow maxTerms packet × (node .0 < wordBits) ⌝ }
+    ensures { λ r. ⌜ Takes at (node .0) packet (now (states .entry)) r (now (states .exit)) ⌝ }
 {
     let current = packet.current_term;
     let last = packet.last_accepted_term;

@@ -1,13 +1,16 @@
--- The key stream by blocks and by draws. Assumes nothing.
+-- The key stream by blocks, by draws and by outcomes. Assumes nothing.
 use Prim.Native.Nat.{ℕ, _+_, _*_, _/_, _%_, _^_, _<_}
-use mathlib.Core.Path.{_≡_, sym, ap, ap₂, _∙_}
+use mathlib.Core.Path.{_≡_, refl, sym, ap, ap₂, _∙_}
 use mathlib.Core.List.{List}
+use mathlib.Core.Logic.{inr}
 use native.Mathlib.Omega.{arith}
+use lib.Ieee.{Float}
 use lib.ListN.{getD}
 use Rattle.random.specs.Table.{tabulate}
 use Rattle.random.specs.Seed.{keyOf}
 use Rattle.random.specs.ChaCha.{streamBlock}
-use Rattle.random.specs.Draws.{streamWord, draw, Keyed, Holds}
+use Rattle.random.specs.Draws.{keySize, streamWord, draw, Keyed, Holds, Before}
+use Rattle.random.specs.Reception.{heard, Source}
 use Rattle.random.proofs.Tables.{length-tabulate, tabulate-cong, by-places}
 
 -- draw u of block b
@@ -21,7 +24,7 @@ draw-of-block seed n b u h e =
     word w v p q = ap₂ (λ (x y : ℕ). getD (streamBlock (keyOf seed) x) y 0) p q
 
 -- draw n, where its block is in hand
-pub draw-in-hand : (seed n : ℕ) (w : List ℕ) → Holds seed (n / 8) w → draw seed n ≡ getD w (8 + 2 * (n % 8)) 0 + getD w (9 + 2 * (n % 8)) 0 * 2 ^ 32
+pub draw-in-hand : (seed n : ℕ) (w : List ℕ) → Holds seed (n / 8) w → draw seed n ≡ getD w (keySize + 2 * (n % 8)) 0 + getD w (keySize + 2 * (n % 8) + 1) 0 * 2 ^ 32
 draw-in-hand seed n w h =
     let u = n % 8 in
     draw-of-block seed n (n / 8) u (omega arith) (omega arith)
@@ -31,4 +34,8 @@ draw-in-hand seed n w h =
 pub key-in-hand : (seed : ℕ) (w : List ℕ) → Keyed seed w → tabulate 8 (λ (i : ℕ). getD w i 0) ≡ keyOf seed
 unfolding keyOf
 key-in-hand seed w h =
-    tabulate-cong 8 (λ (i : ℕ). getD w i 0) (λ (i : ℕ). getD (keyOf seed) i 0) h ∙ sym (by-places 8 0 (keyOf seed) (length-tabulate 8 _))
+    tabulate-cong 8 (λ (i : ℕ). getD w i 0) (λ (i : ℕ). getD (keyOf seed) i 0) (h .words) ∙ sym (by-places 8 0 (keyOf seed) (length-tabulate 8 _))
+
+-- as the draws begin, the stream is a source of the seed's outcomes
+pub source-begins : (rate : Float) (seed : ℕ) (w : List ℕ) → Before seed 0 w → Source rate (heard rate seed) 0 w
+source-begins rate seed w b = record { seed = seed; outcomes = refl; ready = inr b }

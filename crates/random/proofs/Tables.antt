@@ -70,11 +70,11 @@ filled-all {f} {n} {l} d h = is-tabulate n f 0 l (d .size) (λ k b. d .places k 
 pub put-none : (from l : List ℕ) (at : ℕ) → Put from at 0 l l
 put-none from l at = record { size = refl; kept = λ k h. refl; placed = λ k h. absurd (omega arith) }
 
-pub put-more : {from l₀ l : List ℕ} {at i : ℕ} → Put from at i l₀ l → at + i < length l → Put from at (i + 1) l₀ (set l (at + i) (getD from i 0))
-put-more {from} {l₀} {l} {at} {i} d h =
+pub put-more : {from l₀ l : List ℕ} {at i : ℕ} → Put from at i l₀ l → Put from at (i + 1) l₀ (set l (at + i) (getD from i 0))
+put-more {from} {l₀} {l} {at} {i} d =
     let v = getD from i 0 in
     record {
       size = length-set l (at + i) v ∙ d .size;
       kept = λ k b. getD-set-other l (at + i) k v 0 (λ p. omega (arith, p)) ∙ d .kept k b;
-      placed = below-more _ i (λ k b. getD-set-other l (at + i) (at + k) v 0 (λ p. omega (arith, p)) ∙ d .placed k b) (getD-set-same l (at + i) v 0 h);
+      placed = below-more _ i (λ k b h. getD-set-other l (at + i) (at + k) v 0 (λ p. omega (arith, p)) ∙ d .placed k b h) (λ h. getD-set-same l (at + i) v 0 (omega (arith, d .size)));
     }

@@ -2,25 +2,37 @@
 use Prim.Native.Nat.{ℕ, _+_, _*_, _/_, _%_, _^_, _<_}
 use mathlib.Core.Path.{_≡_}
 use mathlib.Core.List.{List}
-use lib.ListN.{getD}
+use lib.ListN.{length, getD}
 use Rattle.random.specs.Seed.{keyOf}
 use Rattle.random.specs.ChaCha.{streamBlock}
 
--- word w of a seed's key stream: its blocks one after the other, sixteen words each
+-- the words of a key and of a block
+abbrev pub keySize : ℕ
+keySize = 8
+
+abbrev pub blockSize : ℕ
+blockSize = 16
+
+-- word w of a seed's key stream: its blocks one after the other
 unfoldable pub streamWord : ℕ → ℕ → ℕ
-streamWord seed w = getD (streamBlock (keyOf seed) (w / 16)) (w % 16) 0
+streamWord seed w = getD (streamBlock (keyOf seed) (w / blockSize)) (w % blockSize) 0
 
 -- draw k of a seed: two output words, low first
 unfoldable pub draw : ℕ → ℕ → ℕ
 draw seed k = streamWord seed (2 * k) + streamWord seed (2 * k + 1) * 2 ^ 32
 
--- 24 words hold where the draws stand: the key of a seed in places 0 to 7,
-abbrev pub Keyed : ℕ → List ℕ → Type 0
-Keyed seed w = (i : ℕ) → i < 8 → getD w i 0 ≡ getD (keyOf seed) i 0
+-- The stream of a seed's draws has room for a key, and then for a block.
+abbrev pub streamSize : ℕ
+streamSize = keySize + blockSize
 
--- and a block of its stream in places 8 to 23
+-- It holds the key of the seed,
+pub record Keyed (seed : ℕ) (w : List ℕ) : Type 0 where
+  pub size : length w ≡ streamSize
+  pub words : (i : ℕ) → i < keySize → getD w i 0 ≡ getD (keyOf seed) i 0
+
+-- and a block of its key stream.
 abbrev pub Holds : ℕ → ℕ → List ℕ → Type 0
-Holds seed b w = (i : ℕ) → i < 16 → getD w (8 + i) 0 ≡ getD (streamBlock (keyOf seed) b) i 0
+Holds seed b w = (i : ℕ) → i < blockSize → getD w (keySize + i) 0 ≡ getD (streamBlock (keyOf seed) b) i 0
 
 -- Draw n of a seed is next: the key is in hand, and, unless n is the first of the eight draws of its block, so is the block.
 pub record Before (seed n : ℕ) (w : List ℕ) : Type 0 where

@@ -3,5 +3,6 @@ pub mod Table
 pub mod Word
 pub mod Seed
 pub mod ChaCha
+pub mod TurnedRows
 pub mod Draws
 pub mod Reception

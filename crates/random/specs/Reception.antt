@@ -1,5 +1,6 @@
 -- Fraction and reception (document 01, "Units and draws").
-use Prim.Native.Nat.{ℕ, _/_, _^_}
+use Prim.Native.Nat.{ℕ, _+_, _/_, _^_}
+use mathlib.Core.Path.{_≡_}
 use mathlib.Core.Bool.{Bool, false, _||_}
 use mathlib.Core.List.{List}
 use mathlib.Core.Logic.{_⊎_}
@@ -25,6 +26,17 @@ received rate d = Ieee.le rate (fraction d)
 unfoldable pub heard : Float → ℕ → ℕ → Bool
 heard rate seed k = lossless rate || received rate (draw seed k)
 
--- the words are ready for attempt k: draw k is next, or none is ever taken
+-- the stream is ready for attempt k: draw k is next, or none is ever taken
 abbrev pub Ready : Float → ℕ → ℕ → List ℕ → Type 0
 Ready rate seed k w = T (lossless rate) ⊎ Before seed k w
+
+-- from attempt k on, this rate with this stream gives these outcomes
+pub record Source (rate : Float) (outcome : ℕ → Bool) (k : ℕ) (w : List ℕ) : Type 0 where
+  pub seed : ℕ
+  pub outcomes : outcome ≡ heard rate seed
+  pub ready : Ready rate seed k w
+
+-- attempt k had the outcome r, and the stream, w before it, is w' after it
+pub record Receives (rate : Float) (k : ℕ) (w : List ℕ) (r : Bool) (w' : List ℕ) : Type 0 where
+  pub received : (outcome : ℕ → Bool) → Source rate outcome k w → r ≡ outcome k
+  pub next : (outcome : ℕ → Bool) → Source rate outcome k w → Source rate outcome (k + 1) w'

@@ -3,6 +3,7 @@ ghost use mathlib.Core.Path.{_≡_};
 ghost use Prim.Native.Nat.{_<_};
 ghost use lib.ListN.{getD};
 ghost use Rattle.random.specs.ChaCha as ChaCha;
+ghost use Rattle.random.specs.TurnedRows.{turnedRows};
 use super::word::rotate_left;
 
 // Four words of the state.
@@ -75,32 +76,37 @@ fn column_round(s: [u32; 16]) -> [u32; 16]
     ]
 }
 
-// The same on the four diagonals.
+// Row r, of four words, turned left by r places: the diagonals stand as columns. Turned four times,
+// the state is as it was.
+fn turn_rows(s: [u32; 16]) -> [u32; 16]
+    ensures { λ r. ⌜ r ≡ turnedRows s ⌝ }
+{
+    [
+        s[0],
+        s[1],
+        s[2],
+        s[3],
+        s[5],
+        s[6],
+        s[7],
+        s[4],
+        s[10],
+        s[11],
+        s[8],
+        s[9],
+        s[15],
+        s[12],
+        s[13],
+        s[14],
+    ]
+}
+
+// The quarter rounds on the four diagonals, which are the columns of the turned rows.
 fn diagonal_round(s: [u32; 16]) -> [u32; 16]
     ensures { λ r. ⌜ r ≡ ChaCha.diagonalRound s ⌝ }
 {
-    let p = quarter_of(s, 0, 5, 10, 15);
-    let q = quarter_of(s, 1, 6, 11, 12);
-    let r = quarter_of(s, 2, 7, 8, 13);
-    let t = quarter_of(s, 3, 4, 9, 14);
-    [
-        p.a,
-        q.a,
-        r.a,
-        t.a,
-        t.b,
-        p.b,
-        q.b,
-        r.b,
-        r.c,
-        t.c,
-        p.c,
-        q.c,
-        q.d,
-        r.d,
-        t.d,
-        p.d,
-    ]
+    let t = column_round(turn_rows(s));
+    turn_rows(turn_rows(turn_rows(t)))
 }
 
 // The state after that many double rounds, a column round and a diagonal round each.

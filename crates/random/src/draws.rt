@@ -3,13 +3,18 @@ ghost use mathlib.Core.Path.{_≡_};
 ghost use Prim.Native.Nat.{ℕ, _+_, _*_, _^_, _≤_};
 ghost use lib.ListN.{length};
 ghost use Rattle.random.specs.ChaCha as ChaCha;
-ghost use Rattle.random.specs.Draws.{Keyed, Holds, Before, draw};
+ghost use Rattle.random.specs.Draws.{streamSize, Keyed, Before, Holds, draw};
 ghost use Rattle.random.specs.Table.{tabulate, Put};
 use super::chacha::block;
 use super::seed::key_of;
 
 // Four double rounds are eight rounds.
 const DOUBLE_ROUNDS: u32 = 4;
+
+// The stream of a seed's draws: the key, then the block in hand.
+const KEY_SIZE: usize = 8;
+
+pub const STREAM_SIZE: usize = 24;
 
 // The stream's block of that number: a 64-bit counter, low word first, and two zero words.
 fn stream_block(key: [u32; 8], counter: u64) -> [u32; 16]
@@ -27,54 +32,53 @@ fn pair(low: u32, high: u32) -> u64
     (high as u64) * 0x1_0000_0000 + (low as u64)
 }
 
-// Copies the words of `from` to `words`, from the place `at` on.
-fn put(from: &[u32], words: &mut [u32], at: usize)
-    requires { ⌜ at + length (now from) ≤ length (now words) ⌝ }
-    ensures { λ _. ⌜ Put (now (from .entry)) at (length (now (from .entry))) (now (words .entry)) (now (words .exit)) ⌝ }
+// Copies words to the stream, from the place `at` on.
+fn put(words: &[u32], stream: &mut [u32; STREAM_SIZE], at: usize)
+    requires { ⌜ at + length (now words) ≤ streamSize ⌝ }
+    ensures { λ _. ⌜ Put (now (words .entry)) at (length (now (words .entry))) (now (stream .entry)) (now (stream .exit)) ⌝ }
 {
-    for i in 0..from.len() {
-        words[at + i] = from[i];
+    for i in 0..words.len() {
+        stream[at + i] = words[i];
     }
 }
 
-// Draw 0 of the seed is next. No block is computed before it is needed.
-pub fn begin_draws(words: &mut [u32], seed: u64)
-    requires { ⌜ 24 ≤ length (now words) ⌝ }
-    ensures { λ _. ⌜ (length (now (words .exit)) ≡ length (now (words .entry))) × Before seed 0 (now (words .exit)) ⌝ }
+// The stream of a seed, with draw 0 next. No block is computed before it is needed.
+pub fn begin_draws(seed: u64) -> [u32; STREAM_SIZE]
+    ensures { λ r. ⌜ Before seed 0 r ⌝ }
 {
     let key = key_of(seed);
-    put(&key, words, 0);
+    let mut stream = [0u32; STREAM_SIZE];
+    put(&key, &mut stream, 0);
+    stream
 }
 
 // The block of that number, of the stream of the key in hand, becomes the block in hand.
-fn fill(words: &mut [u32], counter: u64)
-    requires { ⌜ 24 ≤ length (now words) ⌝ }
-    ensures { λ _. ⌜ (length (now (words .exit)) ≡ length (now (words .entry))) × ((seed : ℕ) → Keyed seed (now (words .entry)) → Keyed seed (now (words .exit)) × Holds seed counter (now (words .exit))) ⌝ }
+fn fill(stream: &mut [u32; STREAM_SIZE], counter: u64)
+    ensures { λ _. ⌜ ((seed : ℕ) → Keyed seed (now (stream .entry)) → Keyed seed (now (stream .exit)) × Holds seed counter (now (stream .exit))) ⌝ }
 {
     let key = [
-        words[0],
-        words[1],
-        words[2],
-        words[3],
-        words[4],
-        words[5],
-        words[6],
-        words[7],
+        stream[0],
+        stream[1],
+        stream[2],
+        stream[3],
+        stream[4],
+        stream[5],
+        stream[6],
+        stream[7],
     ];
     let block = stream_block(key, counter);
-    put(&block, words, 8);
+    put(&block, stream, KEY_SIZE);
 }
 
 // Draw k, where it is next. A block is computed when the first of its eight draws is taken.
-pub fn next_draw(words: &mut [u32], k: u64) -> u64
-    requires { ⌜ 24 ≤ length (now words) ⌝ }
-    ensures { λ r. ⌜ (length (now (words .exit)) ≡ length (now (words .entry))) × ((seed : ℕ) → Before seed k (now (words .entry)) → (r ≡ draw seed k) × Before seed (k + 1) (now (words .exit))) ⌝ }
+pub fn next_draw(stream: &mut [u32; STREAM_SIZE], k: u64) -> u64
+    ensures { λ r. ⌜ ((seed : ℕ) → Before seed k (now (stream .entry)) → (r ≡ draw seed k) × Before seed (k + 1) (now (stream .exit))) ⌝ }
 {
     let used = (k % 8) as usize;
     if used == 0 {
-        fill(words, k / 8);
+        fill(stream, k / 8);
     }
-    pair(words[8 + 2 * used], words[9 + 2 * used])
+    pair(stream[KEY_SIZE + 2 * used], stream[KEY_SIZE + 2 * used + 1])
 }
 
 // Fills a slice with the draws of a seed, from draw 0 on.

@@ -1,8 +1,7 @@
 // A draw's fraction, and whether a reception succeeds.
 ghost use mathlib.Core.Path.{_≡_};
-ghost use Prim.Native.Nat.{ℕ, _+_, _≤_};
-ghost use lib.ListN.{length};
-ghost use Rattle.random.specs.Reception.{fraction as fractionOf, heard, Ready};
+ghost use Rattle.random.specs.Reception.{fraction as fractionOf, Receives};
+use super::draws::STREAM_SIZE;
 use super::draws::next_draw;
 
 // 2^-53.
@@ -16,12 +15,11 @@ pub fn fraction(draw: u64) -> f64
 }
 
 // One attempt, of number k, at a loss rate. Where the rate is 0, nothing is lost and no draw is taken.
-pub fn receive(rate: f64, words: &mut [u32], k: u64) -> bool
-    requires { ⌜ 24 ≤ length (now words) ⌝ }
-    ensures { λ r. ⌜ (length (now (words .exit)) ≡ length (now (words .entry))) × ((seed : ℕ) → Ready rate seed k (now (words .entry)) → (r ≡ heard rate seed k) × Ready rate seed (k + 1) (now (words .exit))) ⌝ }
+pub fn receive(rate: f64, stream: &mut [u32; STREAM_SIZE], k: u64) -> bool
+    ensures { λ r. ⌜ Receives rate k (now (stream .entry)) r (now (stream .exit)) ⌝ }
 {
     if rate == 0.0 {
         return true;
     }
-    fraction(next_draw(words, k)) >= rate
+    fraction(next_draw(stream, k)) >= rate
 }

@@ -5,18 +5,16 @@
 // prints for `stdin`.
 use libc::STDIN_FILENO;
 use libc::STDOUT_FILENO;
-use phy::ci::RoundSlots;
+use line::asked::config_of;
+use line::read::Line;
+use line::read::Read;
+use line::read::read_line;
+use listing::write::write_listing;
+use listing::write::write_refusal;
 use random::word::wrapping_mul_u64;
-use sim::config::Answer;
-use sim::config::Config;
+use rules::answer::Answer;
 use sim::entries::run_rows;
 use std::num::wrapping_add_u64;
-use text::line::Line;
-use text::line::Read;
-use text::line::RoundSlots as Slots;
-use text::line::read_line;
-use text::listing::write_listing;
-use text::listing::write_refusal;
 ghost use Prim.Native.Nat.{_≤_};
 ghost use mathlib.Core.Path.{_≡_};
 ghost use lib.ListN.{length};
@@ -122,34 +120,6 @@ fn smaller(a: usize, b: usize) -> usize
     if a < b { a } else { b }
 }
 
-fn rate_of(bits: u64) -> f64 {
-    if 0x7ff0_0000_0000_0000 < bits % 0x8000_0000_0000_0000 {
-        0.0 / 0.0
-    } else {
-        f64::from_bits(bits)
-    }
-}
-
-fn slots_of(slots: Slots) -> RoundSlots {
-    match slots {
-        Slots::Absent => RoundSlots::Absent,
-        Slots::Of(n) => RoundSlots::Of(n),
-    }
-}
-
-fn config_of(line: Line) -> Config {
-    let slots = line.round_slots;
-    Config {
-        flood_repeats: line.repeats,
-        round_slots: slots_of(slots),
-        loss_rate: rate_of(line.loss),
-        seed: line.seed,
-        num_proposals: line.proposals,
-        snapshot_interval: line.interval,
-        max_slots: line.limit,
-    }
-}
-
 fn byte_at(s: &[u8], i: usize) -> u8 {
     if i < s.len() { s[i] } else { b' ' }
 }
@@ -219,7 +189,7 @@ fn answer(line: &[u8], out: &mut [u8]) -> usize
     if is_rows(line) {
         return answer_rows(line, out);
     }
-    sim::program::answer(line, out)
+    program::answer(line, out)
 }
 
 // Answers one line after another.

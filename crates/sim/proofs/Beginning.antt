@@ -1,5 +1,5 @@
 -- A run before its first round: every node listens, and nothing is held, logged or recorded. Assumes nothing.
-use Prim.Native.Nat.{ℕ, zero, suc, _+_, _*_, _^_, _≤_, _<_}
+use Prim.Native.Nat.{ℕ, zero, suc, _+_, _-_, _*_, _^_, _≤_, _<_}
 use mathlib.Core.Path.{_≡_, refl, sym, ap, subst, subst⁻¹, _∙_}
 use mathlib.Core.Bool.{Bool, true, false, cond}
 use mathlib.Core.List.{List, []}
@@ -7,8 +7,10 @@ use mathlib.Core.Logic.{_⊎_, inl, inr}
 use native.Mathlib.Nat.{zero-mul, le-refl}
 use native.Mathlib.Omega.{arith}
 use lib.Dec.{leb}
-use borrow.Author.Tests.{leb-true}
+use lib.Pow.{pow-pos}
+use borrow.Author.Tests.{leb-true, le-leb, lt-leb}
 use lib.ListN.{replicate, length-replicate, getD-replicate}
+use Rattle.config.specs.Limits.{maxNodes, maxTerms}
 use Rattle.random.specs.Table.{tabulate}
 use Rattle.network.specs.Graph.{has, setOf}
 use Rattle.network.proofs.Sets.{two}
@@ -16,20 +18,23 @@ use Rattle.random.proofs.Tables.{is-tabulate}
 use Rattle.phy.specs.declared.node.Node.{Node}
 use Rattle.phy.specs.declared.packet.Piggyback.{Piggyback}
 use Rattle.phy.specs.declared.slot.Flood.{Flood}
+use Rattle.phy.specs.Limits.{heldSize}
 use Rattle.phy.specs.Node.{new, total, isListening, isFlooding}
-use Rattle.phy.specs.Slot.{at}
+use Rattle.phy.specs.Slot.{at, Standing}
 use Rattle.phy.specs.View.{Holding, Stands}
 use Rattle.phy.proofs.Masks.{has-zero}
 use Rattle.phy.proofs.Count.{count-none}
+use Rattle.phy.proofs.Snapshots.{recorded-none}
+use Rattle.protocol.specs.Layout.{nodeSize, firstOf}
 use Rattle.protocol.specs.Paxos.{empty}
 use Rattle.protocol.proofs.Frame.{fresh-view, fresh-kept, zeros as no-start}
-use Rattle.pipeline.specs.declared.shared.Shared.{Shared as Carried}
+use Rattle.pipeline.specs.declared.carry.Carry.{Carry}
 use Rattle.pipeline.specs.Round.{recorded}
-use Rattle.sim.specs.Run.{Given, begin}
-use Rattle.pipeline.specs.View.{Filed, Sharing, statesOf, recordsOf, recordedOf, sharedOf, tableSize}
+use Rattle.pipeline.specs.View.{fewNodes, someNodes, historySize, Recording, Sharing, statesOf, recordsOf, sharedOf, tableSize}
+use Rattle.rules.specs.Run.{Given, begin}
+use Rattle.rules.proofs.Sums.{sum-new}
 use Rattle.sim.specs.Going.{NewFlood, NewRun}
 use Rattle.sim.proofs.Full.{full-set}
-use Rattle.sim.proofs.Sums.{sum-new}
 
 -- ---- sets
 
@@ -45,7 +50,7 @@ empty-set (suc n) f h =
 new-at : (n j : ℕ) → j < n → at (replicate n new) j ≡ new
 new-at n j h = getD-replicate n j new new h
 
-module _ (n listening : ℕ) (few : n ≤ 32) (all : listening + 1 ≡ 2 ^ n) where
+module _ (n listening : ℕ) (few : n ≤ maxNodes) (all : listening ≡ 2 ^ n - 1) where
   abbrev newFlood : Flood
   newFlood =
       record {
@@ -62,12 +67,16 @@ module _ (n listening : ℕ) (few : n ≤ 32) (all : listening + 1 ≡ 2 ^ n) wh
         snapshots = 0;
       }
 
-  stands : (b : List ℕ) → Stands n newFlood (replicate 384 0) b (record { nodes = replicate n new; attempts = 0; successes = 0; slot = 0; shots = record { next = 0; count = 0; buffer = b } })
+  abbrev newStanding : ℕ → Standing
+  newStanding m = record { nodes = replicate m new; attempts = 0; successes = 0; slot = 0; shots = record { next = 0; taken = [] } }
+
+  stands : (b : List ℕ) → Stands n newFlood (replicate heldSize 0) b b (newStanding n)
   stands b =
       record {
-        listening = omega (arith, all, full-set n (λ (j : ℕ). isListening (at (replicate n new) j)) (λ j h. ap isListening (new-at n j h)));
+        listening = omega (arith, all, pow-pos n, full-set n (λ (j : ℕ). isListening (at (replicate n new) j)) (λ j h. ap isListening (new-at n j h)));
         flooding = sym (empty-set n (λ (j : ℕ). isFlooding (at (replicate n new) j)) (λ j h. ap isFlooding (new-at n j h)));
-        held = λ j h. subst (λ (v : Node). Holding (replicate 384 0) 0 j (v .payload)) (sym (new-at n j h)) (has-zero j);
+        room = length-replicate {A = ℕ} heldSize 0;
+        held = λ j h. subst (λ (v : Node). Holding (replicate heldSize 0) 0 j (v .payload)) (sym (new-at n j h)) (has-zero j);
         holders = omega arith;
         listens = sym (sum-new (λ (v : Node). v .«slots_listen») n n refl (le-refl n));
         floods = sym (sum-new (λ (v : Node). v .«slots_flood») n n refl (le-refl n));
@@ -76,13 +85,13 @@ module _ (n listening : ℕ) (few : n ≤ 32) (all : listening + 1 ≡ 2 ^ n) wh
         attempts = refl;
         successes = refl;
         slot = refl;
-        shots = refl;
+        shots = recorded-none b;
       }
 
   pub new-flood : NewFlood n newFlood
   new-flood =
       record {
-        stands = λ g b e. subst⁻¹ (λ (m : ℕ). Stands n newFlood (replicate 384 0) b (record { nodes = replicate m new; attempts = 0; successes = 0; slot = 0; shots = record { next = 0; count = 0; buffer = b } })) e (stands b);
+        stands = λ g b e. subst⁻¹ (λ (m : ℕ). Stands n newFlood (replicate heldSize 0) b b (newStanding m)) e (stands b);
         sound = λ g e low high i. record { few = omega (arith, e); repeats = (low, high); interval = i; attempts = omega arith; successes = omega arith; next = sym (zero-mul (g .interval)) };
         first = refl;
         untried = refl;
@@ -90,32 +99,42 @@ module _ (n listening : ℕ) (few : n ≤ 32) (all : listening + 1 ≡ 2 ^ n) wh
 
 -- ---- the nodes' part
 
+-- its size where there are few nodes, some, or more
+pub table-few : (n : ℕ) → n ≤ fewNodes → nodeSize * fewNodes ≡ tableSize n
+table-few n h = rw (le-leb n fewNodes h)
+
+pub table-some : (n : ℕ) → fewNodes < n → n ≤ someNodes → nodeSize * someNodes ≡ tableSize n
+table-some n l h = rw (lt-leb n fewNodes l, le-leb n someNodes h)
+
+pub table-all : (n : ℕ) → someNodes < n → nodeSize * maxNodes ≡ tableSize n
+table-all n l = rw (lt-leb n fewNodes (omega arith), lt-leb n someNodes l)
+
 -- the table has room for all of them
-table-fits : (n : ℕ) → n ≤ 32 → 195 * n ≤ tableSize n
-table-fits n few = go (two (leb n 4)) (two (leb n 12))
+table-fits : (n : ℕ) → n ≤ maxNodes → nodeSize * n ≤ tableSize n
+table-fits n few = go (two (leb n fewNodes)) (two (leb n someNodes))
   where
-    go : (leb n 4 ≡ true) ⊎ (leb n 4 ≡ false) → (leb n 12 ≡ true) ⊎ (leb n 12 ≡ false) → 195 * n ≤ tableSize n
-    go (inl e) w = rw e (omega (arith, leb-true n 4 e))
-    go (inr e) (inl w) = rw (e, w) (omega (arith, leb-true n 12 w))
+    go : (leb n fewNodes ≡ true) ⊎ (leb n fewNodes ≡ false) → (leb n someNodes ≡ true) ⊎ (leb n someNodes ≡ false) → nodeSize * n ≤ tableSize n
+    go (inl e) w = rw e (omega (arith, leb-true n fewNodes e))
+    go (inr e) (inl w) = rw (e, w) (omega (arith, leb-true n someNodes w))
     go (inr e) (inr w) = rw (e, w) (omega (arith, few))
 
-module _ (n : ℕ) (few : n ≤ 32) where
-  abbrev newShared : Carried
-  newShared = record { counter = 0; records = 0; recorded = 0; piggyback = Piggyback.None; nacks = 0; piggybacks = 0 }
+module _ (n : ℕ) (few : n ≤ maxNodes) where
+  abbrev newCarry : Carry
+  newCarry = record { counter = 0; recorded = record { count = 0; terms = 0 }; piggyback = Piggyback.None; nacks = 0; piggybacks = 0 }
 
-  filed : Filed (recordedOf newShared) (replicate 256 0)
+  recording : Recording (newCarry .recorded) (replicate historySize 0)
   unfolding recordsOf recorded tabulate
-  filed = record { room = refl; few = sym (count-none 64 (has 0) (λ t h. has-zero t)); known = λ t h. has-zero t }
+  recording = record { room = refl; few = sym (count-none maxTerms (has 0) (λ t h. has-zero t)); known = λ t h. has-zero t }
 
   states-new : statesOf n (replicate (tableSize n) 0) ≡ replicate n empty
   unfolding statesOf
   states-new =
       sym (is-tabulate n _ empty (replicate n empty) (length-replicate n empty)
-      (λ j h. getD-replicate n j empty empty h ∙ sym (fresh-view (tableSize n) (195 * j))))
+      (λ j h. getD-replicate n j empty empty h ∙ sym (fresh-view (tableSize n) (firstOf j))))
 
-  new-shared : (g : Given) (b : List ℕ) → g .nodes ≡ n → sharedOf n newShared (replicate (tableSize n) 0) (replicate 256 0) ≡ begin g b .shared
+  new-shared : (g : Given) → g .nodes ≡ n → sharedOf n newCarry (replicate (tableSize n) 0) (replicate historySize 0) ≡ begin g .shared
   unfolding sharedOf recordsOf tabulate
-  new-shared g b e = λ j. record {
+  new-shared g e = λ j. record {
     states = (states-new ∙ ap (λ (k : ℕ). replicate k empty) (sym e)) j;
     counter = 0;
     starts = [];
@@ -125,17 +144,16 @@ module _ (n : ℕ) (few : n ≤ 32) where
     piggybacks = 0;
   }
 
-  new-sharing : Sharing n 0 0 newShared (replicate (tableSize n) 0) (replicate 256 0)
+  new-sharing : Sharing n newCarry (replicate (tableSize n) 0) (replicate historySize 0)
   new-sharing =
       record {
         few = omega arith;
-        kept = record { room = length-replicate (tableSize n) 0; each = λ j h. fresh-kept (tableSize n) (195 * j) (omega (arith, h, table-fits n few)) };
-        started = record { room = refl; unused = λ t h w. no-start 256 t };
-        filed = filed;
+        kept = record { room = length-replicate (tableSize n) 0; each = λ j h. fresh-kept (tableSize n) (firstOf j) (omega (arith, h, table-fits n few)) };
+        started = record { room = refl; unused = λ t h w. no-start historySize t };
+        recording = recording;
         back = tt;
-        nacks = omega arith;
-        piggybacks = omega arith;
       }
 
-  pub new-run : {flood : Flood} → NewFlood n flood → NewRun n (record { flood = flood; shared = newShared; covered = 0; progress = 0 })
-  new-run f = record { flood = f; shared = new-shared; sharing = new-sharing; covered = refl; progress = refl }
+  pub new-run : {flood : Flood} → NewFlood n flood → NewRun n (record { flood = flood; carry = newCarry; covered = 0; progress = 0 })
+  new-run f =
+      record { flood = f; shared = new-shared; sharing = new-sharing; covered = refl; progress = refl; nacks = refl; piggybacks = refl }

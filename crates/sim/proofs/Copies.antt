@@ -12,7 +12,7 @@ use Rattle.random.proofs.Tables.{tabulate-snoc, getD-tabulate}
 use Rattle.protocol.specs.Paxos.{State, empty}
 use Rattle.protocol.specs.View.{logOf, view}
 use Rattle.pipeline.specs.Round.{Record, stateOf}
-use Rattle.sim.specs.Entries.{terms, logsWith, numbersOf}
+use Rattle.rules.specs.Entries.{terms, logsWith, recordNumbers}
 use Rattle.pipeline.specs.View.{recordAt, recordsOf, statesOf}
 
 -- ---- the first n places of s are copied to a list from the place `at` on, and k of them are done
@@ -65,8 +65,8 @@ logs-length old states (suc i) =
     ∙ logs-length old states i
 
 -- ---- the numbers of the records, in their places
-numbers-snoc : (rs : List Record) (r : Record) → numbersOf (rs ++ (r ∷ [])) ≡ numbersOf rs ++ (r .id ∷ r .start ∷ r .end ∷ [])
-unfolding numbersOf
+numbers-snoc : (rs : List Record) (r : Record) → recordNumbers (rs ++ (r ∷ [])) ≡ recordNumbers rs ++ (r .id ∷ r .start ∷ r .end ∷ [])
+unfolding recordNumbers
 numbers-snoc [] r = refl
 numbers-snoc (x ∷ rs) r = ap (λ (l : List ℕ). x .id ∷ x .start ∷ x .end ∷ l) (numbers-snoc rs r)
 
@@ -82,15 +82,15 @@ three-more l j =
     ∙ ap₂ (λ (m : List ℕ) (k : ℕ). m ++ (numberAt l k ∷ [])) (tabulate-snoc (j + 1) (numberAt l) ∙ ap (λ (m : List ℕ). m ++ (numberAt l (j + 1) ∷ [])) (tabulate-snoc j (numberAt l))) e2
     ∙ simp append-assoc
 
-pub numbers-are : (l : List ℕ) (n : ℕ) → numbersOf (recordsOf n l) ≡ tabulate (3 * n) (numberAt l)
-unfolding numbersOf recordsOf tabulate
+pub numbers-are : (l : List ℕ) (n : ℕ) → recordNumbers (recordsOf n l) ≡ tabulate (3 * n) (numberAt l)
+unfolding recordNumbers recordsOf tabulate
 numbers-are l zero = refl
 numbers-are l (suc n) =
     let e : 3 * suc n ≡ 3 * n + 3 = omega arith in
     let e1 : 64 + 3 * n + 1 ≡ 64 + (3 * n + 1) = omega arith in
     let e2 : 64 + 3 * n + 2 ≡ 64 + (3 * n + 2) = omega arith in
-    ap (λ (k : ℕ). numbersOf (tabulate k (recordAt l))) (sym (add-one n))
-    ∙ ap numbersOf (tabulate-snoc n (recordAt l))
+    ap (λ (k : ℕ). recordNumbers (tabulate k (recordAt l))) (sym (add-one n))
+    ∙ ap recordNumbers (tabulate-snoc n (recordAt l))
     ∙ numbers-snoc (tabulate n (recordAt l)) (recordAt l n)
     ∙ (λ i. numbers-are l n i ++ (numberAt l (3 * n) ∷ getD l (e1 i) 0 ∷ getD l (e2 i) 0 ∷ []))
     ∙ sym (three-more l (3 * n))

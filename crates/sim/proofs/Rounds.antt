@@ -1,45 +1,158 @@
--- A round of the code beside a round of the definitions: bounds, and settings that differ in the progress alone. Assumes nothing.
-use Prim.Native.Nat.{ℕ, _+_, _*_, _≤_, _<_}
-use mathlib.Core.Path.{_≡_, subst}
-use mathlib.Core.Bool.{true}
+-- One round of the code beside one of the definitions. Assumes nothing.
+use Prim.Native.Nat.{ℕ, _+_, _*_, _%_, _≤_, _<_}
+use mathlib.Core.Path.{_≡_, sym, ap, ap₂, subst, subst⁻¹, _∙_}
 use mathlib.Core.List.{List}
-use native.Mathlib.Nat.{mul-le-mul}
+use native.Mathlib.Nat.{mod-lt}
 use native.Mathlib.Omega.{arith}
-use lib.ListN.{length, length-append}
-use borrow.Author.Tests.{leb-true}
-use Rattle.network.proofs.Sets.{count-le}
-use Rattle.phy.specs.declared.ci.RoundSlots.{RoundSlots}
+use Rattle.config.specs.Limits.{maxTerms, maxNodes, mostRounds}
+use Rattle.network.specs.declared.units.NodeId.{NodeId}
+use Rattle.phy.specs.declared.ci.Round.{Round}
 use Rattle.phy.specs.declared.packet.Packet.{Packet}
 use Rattle.phy.specs.declared.slot.Flood.{Flood}
+use Rattle.phy.specs.declared.slot.Settings.{Settings}
 use Rattle.phy.specs.Slot.{Setup, Standing}
-use Rattle.phy.specs.Round.{Flooded, lengthLimit, round, coverage}
-use Rattle.phy.specs.View.{Sound, Stands}
-use Rattle.sim.specs.declared.config.Config.{Config}
-use Rattle.sim.specs.Questions.{slotsAllowed}
-use Rattle.sim.specs.Run.{Given, Running, runRound}
-use Rattle.sim.specs.Going.{settingsOf}
+use Rattle.phy.specs.Round.{Flooded, lengthLimit, round}
+use Rattle.phy.specs.View.{Lent, Sound, Stands, CanFlood, Rounded, asSetup}
+use Rattle.pipeline.specs.declared.carry.Carry.{Carry}
+use Rattle.pipeline.specs.declared.round.PreparedRound.{PreparedRound}
+use Rattle.pipeline.specs.Round.{Shared, Prepared, prepareRound, processRound}
+use Rattle.pipeline.specs.View.{sharedOf, MayPrepare, Prepares, MayProcess, Processes}
+use Rattle.rules.specs.Accepted.{Accepted}
+use Rattle.rules.specs.Run.{Given, Running, setupOf, preparedIn, floodedIn, runRound}
+use Rattle.rules.proofs.Rounds.{limit-few, covered-few}
+use Rattle.sim.specs.declared.run.Plan.{Plan}
+use Rattle.sim.specs.declared.run.Run.{Run}
+use Rattle.sim.specs.declared.run.Played.{Played}
+use Rattle.sim.specs.Going.{planned, settingsOf, Workspace, workspace, lentOf, Shows, Steady, Going, Plays}
 
--- a round has at most 4,096 slots
-pub limit-few : (slots : RoundSlots) (d repeats : ℕ) → slotsAllowed slots ≡ true → d < 32 → repeats ≤ 64 → lengthLimit slots d repeats ≤ 4096
-limit-few (RoundSlots.Of s) d repeats ok short few = leb-true s 4096 ok
-limit-few RoundSlots.Absent d repeats ok short few =
-    let most : (d + 2) * repeats ≤ 33 * 64 = mul-le-mul {n₁ = d + 2} {m₁ = repeats} {n₂ = 33} {m₂ = 64} (omega arith) (omega arith) in
-    omega (arith, most)
-
-pub sound-as : (n : ℕ) (c : Config) (p q : ℕ) {x : Flood} → Sound (settingsOf n c p) x → Sound (settingsOf n c q) x
-sound-as n c p q s =
+-- what holds between slots does not speak of the progress
+sound-as : (p : Plan) (m q : ℕ) {x : Flood} → Sound (settingsOf p m) x → Sound (settingsOf p q) x
+sound-as p m q s =
     record { few = s .few; repeats = s .repeats; interval = s .interval; attempts = s .attempts; successes = s .successes; next = s .next }
 
--- no more nodes are covered than there are
-pub covered-few : (g : Setup) (limit initiator : ℕ) (packet : Packet) (s : Standing) → round g limit initiator packet s .covered ≤ g .nodes
-unfolding round coverage
-covered-few g limit initiator packet s = count-le (g .nodes) _
+module _ {graph : List ℕ} {p : Plan} {k : ℕ} {x : Run} {w : Workspace} {b₀ : List ℕ} {s₀ : Running}
+    (ok : Accepted (planned graph p)) (early : k < mostRounds maxTerms) (g₀ : Going graph p k x w b₀ s₀) where
+  abbrev given : Given
+  given = planned graph p
 
--- the code stands where an equal round leads
-pub stands-as : {n : ℕ} {x : Flood} {h b : List ℕ} {f g : Flooded} → f ≡ g → Stands n x h b (f .after) → Stands n x h b (g .after)
-stands-as {n} {x} {h} {b} e = subst (λ (y : Flooded). Stands n x h b (y .after)) e
+  initiator-in : k % p .nodes < p .nodes
+  initiator-in = mod-lt k (omega (arith, ok .two))
 
--- a round more was run
-pub rounds-more : (g : Given) (k : ℕ) (r : Running) → length (runRound g k r .rounds) ≡ length (r .rounds) + 1
-unfolding runRound
-rounds-more g k r = length-append (r .rounds) _
+  abbrev longest : ℕ
+  longest = lengthLimit (p .config .«round_slots») (p .diameter) (p .config .«flood_repeats»)
+
+  pub may-prepare : MayPrepare (p .nodes) (p .config .«num_proposals») (record { 0 = k % p .nodes }) (x .carry) (w .states) (w .history)
+  may-prepare =
+      record {
+        sharing = g₀ .steady .sharing;
+        nacks = omega (arith, g₀ .steady .nacks, early);
+        initiator = initiator-in;
+        two = ok .two;
+        nodes = ok .few;
+        most = ok .proposals;
+      }
+
+  pub can-flood : {y : Settings} {limit : ℕ} → y ≡ settingsOf p (x .progress) → limit ≡ longest → CanFlood y limit (k % p .nodes) (x .flood) (lentOf w)
+  can-flood {y} {limit} q e =
+      subst⁻¹ (λ (z : Settings). CanFlood z limit (k % p .nodes) (x .flood) (lentOf w)) q
+      (let few = limit-few (p .config .«round_slots») (p .diameter) (p .config .«flood_repeats») (ok .slots) (ok .short) (ok .repeats-high) in
+      record {
+        sound = sound-as p 0 (x .progress) (g₀ .steady .sound);
+        node = initiator-in;
+        early = omega (arith, e, few, g₀ .steady .slots, early);
+        room = g₀ .steady .room;
+        heard = given .heard;
+        source = g₀ .steady .source;
+        first = b₀;
+        standing = s₀ .standing;
+        stands = g₀ .shows .standing;
+      })
+
+  -- what the three calls of a round give
+  module _ {prepared : PreparedRound} {b t : List ℕ}
+      (pr : Prepares (p .nodes) (p .config .«num_proposals») (record { 0 = k % p .nodes }) (x .flood .slot) (x .carry) (w .states) (w .history) prepared b t)
+    where
+      pub may-process : MayProcess (p .nodes) (prepared .packet) (prepared .carry) b t
+      may-process =
+          record {
+            sharing = pr .sharing;
+            piggybacks = omega (arith, pr .piggybacks, g₀ .steady .piggybacks, early);
+            nodes = ok .few;
+            below = pr .below;
+          }
+
+      module _ {y : Settings} {limit : ℕ} {flooded : Round} {l : Lent} {carry : Carry} {b' t' : List ℕ} (q : y ≡ settingsOf p (x .progress)) (e : limit ≡ longest)
+          (fl₀ : Rounded y graph limit (k % p .nodes) (prepared .packet) (x .flood) (lentOf w) flooded l)
+          (pc : Processes (p .nodes) (prepared .packet) (flooded .flood .slot) (flooded .part) (prepared .carry) b t carry b' t') where
+        fl : Rounded (settingsOf p (x .progress)) graph limit (k % p .nodes) (prepared .packet) (x .flood) (lentOf w) flooded l
+        fl = subst (λ (z : Settings). Rounded z graph limit (k % p .nodes) (prepared .packet) (x .flood) (lentOf w) flooded l) q fl₀
+
+        abbrev after : Run
+        after = record { flood = flooded .flood; carry = carry; covered = x .covered + flooded .covered; progress = x .progress }
+
+        abbrev then : Workspace
+        then = workspace (l .queue) (l .stream) (l .held) b' t' (l .snapshots)
+
+        -- beside the round of the definitions
+        module _ {b₁ : List ℕ} {s : Running} (g : Going graph p k x w b₁ s) where
+          abbrev mine : Prepared
+          mine = prepareRound (p .nodes) (p .config .«num_proposals») (k % p .nodes) (x .flood .slot .0) (sharedOf (p .nodes) (x .carry) (w .states) (w .history))
+
+          same : mine ≡ preparedIn given k s
+          same = ap₂ (prepareRound (p .nodes) (p .config .«num_proposals») (k % p .nodes)) (g .shows .standing .slot) (g .shows .shared)
+
+          packet-is : prepared .packet ≡ preparedIn given k s .packet
+          packet-is = _∙_ {b = mine .packet} (pr .packet) (ap (λ (q : Prepared). q .packet) same)
+
+          abbrev here : Flooded
+          here = round (asSetup (settingsOf p (x .progress)) graph (given .heard)) limit (k % p .nodes) (prepared .packet) (s .standing)
+
+          flood-is : here ≡ floodedIn given k s
+          flood-is = λ j.
+              round
+              (record { rows = graph; nodes = p .nodes; repeats = p .config .«flood_repeats»; interval = p .config .«snapshot_interval»; progress = g .progress j; heard = given .heard })
+              (e j) (k % p .nodes) (packet-is j) (s .standing)
+
+          stood : Stands (p .nodes) (flooded .flood) (l .held) b₁ (l .snapshots) (here .after) × (flooded .part ≡ here .part) × (flooded .covered ≡ here .covered)
+          stood = fl .stands (given .heard) (g .steady .source) b₁ (s .standing) (g .shows .standing)
+
+          part-is : flooded .part ≡ floodedIn given k s .part
+          part-is = _∙_ {b = here .part} (stood .1) (ap (λ (f : Flooded). f .part) flood-is)
+
+          shows : Shows p after then b₁ (runRound given k s)
+          unfolding runRound
+          shows =
+              let standing : Stands (p .nodes) (flooded .flood) (l .held) b₁ (l .snapshots) (floodedIn given k s .after)
+              = subst (λ (f : Flooded). Stands (p .nodes) (flooded .flood) (l .held) b₁ (l .snapshots) (f .after)) flood-is (stood .0) in
+              let before : sharedOf (p .nodes) (prepared .carry) b t ≡ preparedIn given k s .shared
+              = _∙_ {b = mine .shared} (pr .shared) (ap (λ (q : Prepared). q .shared) same) in
+              record {
+                standing = standing;
+                shared = pc .shared ∙ (λ j. processRound (p .nodes) (packet-is j) (standing .slot j) (part-is j) (before j));
+                covered = ap₂ _+_ (g .shows .covered) (_∙_ {b = here .covered} (stood .2) (ap (λ (f : Flooded). f .covered) flood-is));
+              }
+
+        covered-most : flooded .covered ≤ maxNodes
+        covered-most =
+            let setup : Setup = asSetup (settingsOf p (x .progress)) graph (given .heard) in
+            omega (arith, stood g₀ .2, covered-few setup limit (k % p .nodes) (prepared .packet) (s₀ .standing), ok .few)
+
+        pub covered-fits : x .covered + flooded .covered ≤ maxNodes * (k + 1)
+        covered-fits = omega (arith, covered-most, g₀ .steady .covered)
+
+        steady : Steady (given .heard) p (k + 1) after then
+        steady =
+            let few = limit-few (p .config .«round_slots») (p .diameter) (p .config .«flood_repeats») (ok .slots) (ok .short) (ok .repeats-high) in
+            record {
+              sound = sound-as p (x .progress) 0 (fl .sound);
+              sharing = pc .sharing;
+              source = fl .source (given .heard) (g₀ .steady .source);
+              room = fl .room;
+              slots = omega (arith, fl .slots, g₀ .steady .slots, e, few);
+              covered = covered-fits;
+              nacks = omega (arith, pc .nacks, pr .nacks, g₀ .steady .nacks);
+              piggybacks = omega (arith, pc .piggybacks, pr .piggybacks, g₀ .steady .piggybacks, ok .few);
+            }
+
+        pub round-plays : Plays graph p k x w (record { run = after; packet = prepared .packet; part = flooded .part }) then
+        round-plays = record { steady = steady; shows = λ b₁ s g. shows g; packet = λ b₁ s g. packet-is g; part = λ b₁ s g. part-is g }

@@ -1,84 +1,170 @@
--- A run of the code between rounds.
-use Prim.Native.Nat.{ℕ, _-_, _*_, _≤_}
+-- A run of the code between rounds, and what its functions promise.
+use Prim.Native.Nat.{ℕ, _+_, _-_, _*_, _≤_, _<_}
 use mathlib.Core.Path.{_≡_}
+use mathlib.Core.Bool.{Bool}
 use mathlib.Core.List.{List}
 use lib.ListN.{length, replicate}
-use Rattle.random.specs.Reception.{Ready}
+use Rattle.config.specs.Limits.{maxNodes, maxTerms, maxRepeats, maxRoundSlots, mostRounds, logSize, recordsSize}
+use Rattle.random.specs.Draws.{Before}
+use Rattle.random.specs.Reception.{Source}
 use Rattle.phy.specs.declared.slot.Settings.{Settings}
 use Rattle.phy.specs.declared.slot.Flood.{Flood}
-use Rattle.phy.specs.View.{Sound, Stands}
-use Rattle.text.specs.declared.listing.Summary.{Summary}
-use Rattle.sim.specs.declared.config.Config.{Config}
-use Rattle.sim.specs.declared.run.Run.{Run}
-use Rattle.sim.specs.declared.run.Ended.{Ended}
+use Rattle.phy.specs.Limits.{heldSize}
+use Rattle.phy.specs.View.{Lent, lent, Sound, Stands}
 use Rattle.pipeline.specs.Round.{shortestLog}
-use Rattle.sim.specs.Run.{Given, Running, begin, roundsFrom, run}
-use Rattle.pipeline.specs.View.{Sharing, sharedOf, tableSize}
+use Rattle.pipeline.specs.View.{Sharing, sharedOf, tableSize, historySize}
+use Rattle.metrics.specs.declared.summary.Summary.{Summary}
+use Rattle.rules.specs.Accepted.{Accepted}
+use Rattle.rules.specs.Entries.{givenAs}
+use Rattle.rules.specs.Run.{Given, Running, begin, preparedIn, floodedIn, runRound, roundsFrom, runFor}
+use Rattle.sim.specs.declared.run.Plan.{Plan}
+use Rattle.sim.specs.declared.run.Run.{Run}
+use Rattle.sim.specs.declared.run.Played.{Played}
+use Rattle.sim.specs.declared.run.Stopped.{Stopped}
+
+-- the run of a graph that a plan asks for
+abbrev pub planned : List ℕ → Plan → Given
+planned graph p = givenAs graph (p .nodes) (p .diameter) (p .config)
 
 -- the flood's settings, for snapshots that show this progress
-abbrev pub settingsOf : ℕ → Config → ℕ → Settings
-settingsOf n c progress =
-    record { nodes = n; repeats = c .«flood_repeats»; interval = c .«snapshot_interval»; progress = progress; rate = c .«loss_rate» }
+abbrev pub settingsOf : Plan → ℕ → Settings
+settingsOf p progress =
+    record {
+      nodes = p .nodes;
+      repeats = p .config .«flood_repeats»;
+      interval = p .config .«snapshot_interval»;
+      progress = progress;
+      rate = p .config .«loss_rate»;
+    }
 
--- What the lent slices hold: the queue of the flooding nodes, the words of the draws, the packets held, the Paxos states, and the starts and records.
-pub record Tables : Type 0 where
-  pub ends : List ℕ
-  pub words : List ℕ
+-- What the lent slices hold: the queue of the flooding nodes, the stream of the draws, the packets held, the Paxos states, the history of
+-- the proposals, and the snapshots.
+pub record Workspace : Type 0 where
+  pub queue : List ℕ
+  pub stream : List ℕ
   pub held : List ℕ
   pub states : List ℕ
-  pub table : List ℕ
+  pub history : List ℕ
+  pub snapshots : List ℕ
 
--- before the first round of n nodes, with any queue and these words
-abbrev pub zeros : ℕ → List ℕ → List ℕ → Tables
-zeros n ends words = record { ends = ends; words = words; held = replicate 384 0; states = replicate (tableSize n) 0; table = replicate 256 0 }
+abbrev pub workspace : List ℕ → List ℕ → List ℕ → List ℕ → List ℕ → List ℕ → Workspace
+workspace queue stream held states history snapshots =
+    record { queue = queue; stream = stream; held = held; states = states; history = history; snapshots = snapshots }
 
--- After k rounds of n nodes the code stands at x, with the tables t and the snapshot buffer b, and the run of the definitions at s.
-pub record Going (n : ℕ) (c : Config) (k : ℕ) (x : Run) (t : Tables) (b : List ℕ) (s : Running) : Type 0 where
-  pub standing : Stands n (x .flood) (t .held) b (s .standing)
-  pub shared : sharedOf n (x .shared) (t .states) (t .table) ≡ s .shared
+-- what of it a flood is lent
+abbrev pub lentOf : Workspace → Lent
+lentOf w = lent (w .queue) (w .stream) (w .held) (w .snapshots)
+
+-- ---- between rounds
+
+-- The code at x with the workspace w shows where the run of the definitions stands. As the run began the snapshots' buffer was b₀.
+pub record Shows (p : Plan) (x : Run) (w : Workspace) (b₀ : List ℕ) (s : Running) : Type 0 where
+  pub standing : Stands (p .nodes) (x .flood) (w .held) b₀ (w .snapshots) (s .standing)
+  pub shared : sharedOf (p .nodes) (x .carry) (w .states) (w .history) ≡ s .shared
   pub covered : x .covered ≡ s .covered
+
+-- What holds of the code's own numbers after k rounds of a run whose attempts have these outcomes.
+pub record Steady (heard : ℕ → Bool) (p : Plan) (k : ℕ) (x : Run) (w : Workspace) : Type 0 where
+  pub sound : Sound (settingsOf p 0) (x .flood)
+  pub sharing : Sharing (p .nodes) (x .carry) (w .states) (w .history)
+  pub source : Source (p .config .«loss_rate») heard (x .flood .attempts) (w .stream)
+  pub room : p .config .«flood_repeats» ≤ length (w .queue)
+  pub slots : x .flood .slot .0 ≤ maxRoundSlots * k
+  pub covered : x .covered ≤ maxNodes * k
+  pub nacks : x .carry .nacks ≤ k
+  pub piggybacks : x .carry .piggybacks ≤ maxNodes * k
+
+-- After k rounds the code stands at x and the run of the definitions at s; snapshots show the progress.
+pub record Going (graph : List ℕ) (p : Plan) (k : ℕ) (x : Run) (w : Workspace) (b₀ : List ℕ) (s : Running) : Type 0 where
+  pub shows : Shows p x w b₀ s
+  pub steady : Steady (planned graph p .heard) p k x w
   pub rounds : length (s .rounds) ≡ k
-  pub sound : Sound (settingsOf n c 0) (x .flood)
-  pub sharing : Sharing n k (32 * k) (x .shared) (t .states) (t .table)
-  pub ready : Ready (c .«loss_rate») (c .seed) (x .flood .attempts) (t .words)
-  pub slots : x .flood .slot .0 ≤ 4096 * k
-  pub few : x .covered ≤ 32 * k
-  pub ends-size : length (t .ends) ≡ 64
-  pub words-size : length (t .words) ≡ 24
-  pub held-size : length (t .held) ≡ 384
+  pub progress : x .progress ≡ shortestLog (s .shared .states) (p .nodes)
 
--- The same of a run that began with the buffer b₀ and may take this many rounds; snapshots show its progress.
-pub record Underway (g : Given) (c : Config) (most k : ℕ) (x : Run) (t : Tables) (b₀ b : List ℕ) : Type 0 where
+-- ---- one round
+
+-- round k can be played from x
+pub record CanPlay (graph : List ℕ) (p : Plan) (k : ℕ) (x : Run) (w : Workspace) : Type 0 where
+  pub accepted : Accepted (planned graph p)
+  pub early : k < mostRounds maxTerms
+  pub first : List ℕ
   pub here : Running
-  pub going : Going (g .nodes) c k x t b here
-  pub rest : roundsFrom g (most - k) k here ≡ run g b₀
-  pub shown : x .progress ≡ shortestLog (here .shared .states) (g .nodes)
-  pub in-time : k ≤ most
-  pub size : length b ≡ length b₀
+  pub going : Going graph p k x w first here
 
--- The code's rounds ended: where, after how many of them, and how.
-pub record Ends (g : Given) (c : Config) (r : Ended) (t : Tables) (b₀ b : List ℕ) : Type 0 where
-  pub going : Going (g .nodes) c (r .rounds) (r .run) t b (run g b₀ .running)
-  pub ended : r .ended ≡ run g b₀ .ended
-  pub few : r .rounds ≤ 1066
+-- round k was played: the code came from x and w to r and w', and the definitions from s to their own round
+pub record Plays (graph : List ℕ) (p : Plan) (k : ℕ) (x : Run) (w : Workspace) (r : Played) (w' : Workspace) : Type 0 where
+  pub steady : Steady (planned graph p .heard) p (k + 1) (r .run) w'
+  pub shows : (b₀ : List ℕ) (s : Running) → Going graph p k x w b₀ s → Shows p (r .run) w' b₀ (runRound (planned graph p) k s)
+  pub packet : (b₀ : List ℕ) (s : Running) → Going graph p k x w b₀ s → r .packet ≡ preparedIn (planned graph p) k s .packet
+  pub part : (b₀ : List ℕ) (s : Running) → Going graph p k x w b₀ s → r .part ≡ floodedIn (planned graph p) k s .part
+
+-- ---- the rounds
+
+-- at most so many rounds can be played over Paxos states and a history that are still empty
+pub record CanBegin (graph : List ℕ) (p : Plan) (most : ℕ) (states history : List ℕ) : Type 0 where
+  pub accepted : Accepted (planned graph p)
+  pub few : most ≤ mostRounds maxTerms
+  pub no-state : states ≡ replicate (tableSize (p .nodes)) 0
+  pub no-history : history ≡ replicate historySize 0
+
+-- and so with the other tables
+pub record CanGo (graph : List ℕ) (p : Plan) (most : ℕ) (w : Workspace) : Type 0 where
+  pub begins : CanBegin graph p most (w .states) (w .history)
+  pub stream : Before (p .config .seed) 0 (w .stream)
+  pub none-held : w .held ≡ replicate heldSize 0
+  pub room : p .config .«flood_repeats» ≤ length (w .queue)
+
+-- Of a run that may take `most` rounds, k are played.
+pub record Underway (graph : List ℕ) (p : Plan) (most k : ℕ) (x : Run) (w : Workspace) (b₀ : List ℕ) : Type 0 where
+  pub here : Running
+  pub going : Going graph p k x w b₀ here
+  pub rest : roundsFrom (planned graph p) (most - k) k here ≡ runFor (planned graph p) most
+  pub in-time : k ≤ most
+
+-- The code's rounds have stopped where those of the definitions do.
+pub record Goes (graph : List ℕ) (p : Plan) (most : ℕ) (r : Stopped) (b₀ : List ℕ) (w : Workspace) : Type 0 where
+  pub shows : Shows p (r .run) w b₀ (runFor (planned graph p) most .running)
+  pub steady : Steady (planned graph p .heard) p (r .rounds) (r .run) w
+  pub rounds : length (runFor (planned graph p) most .running .rounds) ≡ r .rounds
+  pub ended : r .ended ≡ runFor (planned graph p) most .ended
+  pub few : r .rounds ≤ most
+
+-- and so with the states, the history and the snapshots alone
+pub record Stops (graph : List ℕ) (p : Plan) (most : ℕ) (r : Stopped) (b₀ states history snapshots : List ℕ) : Type 0 where
+  pub queue : List ℕ
+  pub stream : List ℕ
+  pub held : List ℕ
+  pub goes : Goes graph p most r b₀ (workspace queue stream held states history snapshots)
+
+-- ---- before the first round
 
 -- a flood before the first round
 pub record NewFlood (n : ℕ) (x : Flood) : Type 0 where
-  pub stands : (g : Given) (b : List ℕ) → g .nodes ≡ n → Stands n x (replicate 384 0) b (begin g b .standing)
-  pub sound : (g : Settings) → g .nodes ≡ n → 1 ≤ g .repeats → g .repeats ≤ 64 → 1 ≤ g .interval → Sound g x
+  pub stands : (g : Given) (b : List ℕ) → g .nodes ≡ n → Stands n x (replicate heldSize 0) b b (begin g .standing)
+  pub sound : (g : Settings) → g .nodes ≡ n → 1 ≤ g .repeats → g .repeats ≤ maxRepeats → 1 ≤ g .interval → Sound g x
   pub first : x .slot .0 ≡ 0
   pub untried : x .attempts ≡ 0
 
 -- a run before the first round
 pub record NewRun (n : ℕ) (x : Run) : Type 0 where
   pub flood : NewFlood n (x .flood)
-  pub shared : (g : Given) (b : List ℕ) → g .nodes ≡ n → sharedOf n (x .shared) (replicate (tableSize n) 0) (replicate 256 0) ≡ begin g b .shared
-  pub sharing : Sharing n 0 0 (x .shared) (replicate (tableSize n) 0) (replicate 256 0)
+  pub shared : (g : Given) → g .nodes ≡ n → sharedOf n (x .carry) (replicate (tableSize n) 0) (replicate historySize 0) ≡ begin g .shared
+  pub sharing : Sharing n (x .carry) (replicate (tableSize n) 0) (replicate historySize 0)
   pub covered : x .covered ≡ 0
   pub progress : x .progress ≡ 0
+  pub nacks : x .carry .nacks ≡ 0
+  pub piggybacks : x .carry .piggybacks ≡ 0
 
--- the summary of a run that has ended, from what the code counted
-abbrev pub summaryFrom : ℕ → Ended → Summary
+-- ---- the run with its buffers
+
+-- an accepted run whose buffers are long enough
+pub record CanFill (graph : List ℕ) (p : Plan) (logs records : List ℕ) : Type 0 where
+  pub accepted : Accepted (planned graph p)
+  pub logs-long : logSize ≤ length logs
+  pub records-long : recordsSize ≤ length records
+
+-- the summary of a run that has stopped, from what the code counted
+abbrev pub summaryFrom : ℕ → Stopped → Summary
 summaryFrom n e =
     record {
       nodes = n;
@@ -93,8 +179,8 @@ summaryFrom n e =
       «flood_rounds» = e .rounds;
       «flood_nodes» = n * e .rounds;
       covered = e .run .covered;
-      nacks = e .run .shared .nacks;
-      piggybacks = e .run .shared .piggybacks;
-      records = e .run .shared .records;
+      nacks = e .run .carry .nacks;
+      piggybacks = e .run .carry .piggybacks;
+      records = e .run .carry .recorded .count;
       snapshots = e .run .flood .snapshots;
     }

@@ -1,13 +1,2 @@
--- What is right for the crate `sim`.
-pub mod Questions
-pub mod Run
-pub mod Entries
-pub mod View
+-- What the code of the run stands for.
 pub mod Going
-pub mod ExactRounds
-pub mod NothingLost
-pub mod Bounds
-pub mod Ratio
-pub mod Answers
-pub mod Printed
-pub mod StarredRuns

@@ -1,36 +1,54 @@
 // The public entries: a run of rows, and a run of a topology.
-use super::config::Answer;
-use super::config::Config;
-use super::questions::Refusal;
-use super::questions::run_refusal;
-use super::run::run_pipeline;
+use super::outcome::run_pipeline;
+use super::run::Plan;
+use config::Config;
+use config::limits::MAX_NODES;
 use network::distance::Measured;
 use network::distance::diameter;
+use network::distance::diameter_of;
 use network::graph::widen;
 use network::topology::Built;
-use network::topology::rows;
+use network::topology::build_graph;
+use rules::answer::Answer;
+use rules::questions::Refusal;
+use rules::questions::run_refusal;
 ghost use mathlib.Core.Path.{_≡_};
-ghost use Prim.Native.Nat.{_≤_};
 ghost use lib.ListN.{length};
-ghost use Rattle.sim.specs.Entries.{ranWith, runOfRows, runOfTopology};
-ghost use Rattle.sim.specs.View.{Accepted, givenAs};
-ghost use Rattle.sim.specs.Answers.{outcome};
+ghost use Rattle.network.specs.Questions.{firstNo};
+ghost use Rattle.rules.specs.Accepted.{Drawn};
+ghost use Rattle.rules.specs.Answers.{outcome};
+ghost use Rattle.rules.specs.Entries.{givenAs, outcomeOf, runOfRows, runOfTopology};
+ghost use Rattle.rules.specs.Questions.{runQuestions};
 
-// A run that no question refuses: its logs and records are written once it has ended.
+// A run of a graph that its own questions let pass: questions 5 to 10, then the run.
 fn run_graph(
-    graph: &[u64; 32],
-    n: usize,
+    graph: &[u64; MAX_NODES],
+    nodes: usize,
     diameter: usize,
     config: Config,
     logs: &mut [u8],
     records: &mut [u64],
     snapshots: &mut [u64],
 ) -> Answer
-    requires { ⌜ Accepted (now graph) n diameter config × ((2080 ≤ length (now logs)) × (192 ≤ length (now records))) ⌝ }
-    ensures { λ r. ⌜ outcome r (now (logs .exit)) (now (records .exit)) (now (snapshots .exit)) ≡ ranWith (givenAs (now (graph .entry)) n diameter config) (now (logs .entry)) (now (records .entry)) (now (snapshots .entry)) ⌝ }
+    requires { ⌜ Drawn (now graph) nodes diameter ⌝ }
+    ensures { λ r. ⌜
+        outcome r (now (logs .exit)) (now (records .exit)) (now (snapshots .exit))
+        ≡ outcomeOf (firstNo (runQuestions config (length (now (logs .entry))) (length (now (records .entry)))))
+        (givenAs (now (graph .entry)) nodes diameter config) (now (logs .entry)) (now (records .entry)) (now (snapshots .entry)) ⌝ }
 {
-    let summary = run_pipeline(graph, n, diameter, config, logs, records, snapshots);
-    Answer::Ran(summary)
+    let refusal = run_refusal(config, logs.len(), records.len());
+    match refusal {
+        Refusal::Number(k) => Answer::Refused(k),
+        Refusal::None => {
+            let plan = Plan {
+                nodes,
+                diameter,
+                config,
+            };
+            let summary = run_pipeline(graph, plan, logs, records, snapshots);
+            Answer::Ran(summary)
+        }
+    }
 }
 
 // A run of n nodes with these rows. A refusal leaves every buffer as it was.
@@ -42,21 +60,17 @@ pub fn run_rows(
     records: &mut [u64],
     snapshots: &mut [u64],
 ) -> Answer
-    ensures { λ r. ⌜ outcome r (now (logs .exit)) (now (records .exit)) (now (snapshots .exit)) ≡ runOfRows (now (rows .entry)) n config (now (logs .entry)) (now (records .entry)) (now (snapshots .entry)) ⌝ }
+    ensures { λ r. ⌜
+        outcome r (now (logs .exit)) (now (records .exit)) (now (snapshots .exit))
+        ≡ runOfRows (now (rows .entry)) n config (now (logs .entry)) (now (records .entry)) (now (snapshots .entry)) ⌝ }
 {
     let measured = diameter(rows, n);
     match measured {
         Measured::Refused(k) => Answer::Refused(k),
         Measured::Links(d) => {
-            let refusal = run_refusal(config, logs.len(), records.len());
-            match refusal {
-                Refusal::Number(k) => Answer::Refused(k),
-                Refusal::None => {
-                    let nodes = n as usize;
-                    let graph = widen(rows, nodes);
-                    run_graph(&graph, nodes, d, config, logs, records, snapshots)
-                }
-            }
+            let nodes = n as usize;
+            let graph = widen(rows, nodes);
+            run_graph(&graph, nodes, d, config, logs, records, snapshots)
         }
     }
 }
@@ -72,12 +86,18 @@ pub fn run_topology(
     records: &mut [u64],
     snapshots: &mut [u64],
 ) -> Answer
-    ensures { λ r. ⌜ outcome r (now (logs .exit)) (now (records .exit)) (now (snapshots .exit)) ≡ runOfTopology topology first second config (now (logs .entry)) (now (records .entry)) (now (snapshots .entry)) ⌝ }
+    ensures { λ r. ⌜
+        outcome r (now (logs .exit)) (now (records .exit)) (now (snapshots .exit))
+        ≡ runOfTopology topology first second config (now (logs .entry)) (now (records .entry)) (now (snapshots .entry)) ⌝ }
 {
-    let mut built = [0u32; 32];
-    let answer = rows(topology, first, second, &mut built);
+    let built = build_graph(topology, first, second);
+    let answer = built.answer;
     match answer {
         Built::Refused(k) => Answer::Refused(k),
-        Built::Nodes(n) => run_rows(&built, n as u64, config, logs, records, snapshots),
+        Built::Nodes(n) => {
+            let graph = built.rows;
+            let d = diameter_of(&graph, n);
+            run_graph(&graph, n, d, config, logs, records, snapshots)
+        }
     }
 }

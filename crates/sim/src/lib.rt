@@ -1,10 +1,6 @@
-// The run of the pipeline: its questions, its rounds, and what it leaves in the lent buffers.
-pub mod buffers;
-pub mod config;
+// The run of the pipeline: its rounds, and what it leaves in the lent buffers.
+mod buffers;
 pub mod entries;
-pub mod metrics;
-pub mod program;
-pub mod questions;
-pub mod ratio;
+mod outcome;
 mod run;
 mod survey;

@@ -9,7 +9,7 @@ use std::fmt::Display;
 
 /// The library's numbers for buffers that are too short.
 const SHORT: u64 = 10;
-const SHORT_SUMMARY: u64 = 13;
+const SHORT_SUMMARY: u64 = 100;
 
 pub struct Checked {
     /// Not all snapshots fitted.

@@ -1,5 +1,5 @@
 use borrow.Author.Needs.{needs}
-use Rattle.capi.proofs.Filings.{diameter-short, diameter-filed}
+use Rattle.capi.proofs.Returns.{diameter-short, diameter-returned}
 use Rattle.capi.proofs.ctsim_diameter.Statement.{statement}
 use Rattle.capi.proofs.ctsim_diameter.Tie as tie
 
@@ -19,13 +19,13 @@ slice-write-links : tie.Need-slice-write-links
 slice-write-links c = search needs
 
 returns-2 : tie.Need-returns-2
-returns-2 c = diameter-filed _ _ _ (c .before .before .before .before .if1 .left) _ _ (c .before .measured .given .1) (c .before .before .before .diameter .ensures)
+returns-2 c = diameter-returned _ _ _ (c .before .before .before .before .if1 .left) _ _ (c .before .measured .given .1) (c .before .before .before .diameter .ensures)
 
 same-length : tie.Need-same-length
 same-length c = search needs
 
 returns-3 : tie.Need-returns-3
-returns-3 c = diameter-filed _ _ _ (c .before .before .before .before .if1 .left) _ _ (c .before .measured2 .given .1) (c .before .before .before .diameter .ensures)
+returns-3 c = diameter-returned _ _ _ (c .before .before .before .before .if1 .left) _ _ (c .before .measured2 .given .1) (c .before .before .before .diameter .ensures)
 
 pub ctsim-diameter-spec : {M : Type 1} → statement M
 ctsim-diameter-spec =

@@ -1,5 +1,5 @@
 use borrow.Author.Needs.{needs}
-use Rattle.capi.proofs.Filings.{ratio-short, ratio-filed}
+use Rattle.capi.proofs.Returns.{ratio-short, ratio-returned}
 use Rattle.capi.proofs.ctsim_ratio.Statement.{statement}
 use Rattle.capi.proofs.ctsim_ratio.Tie as tie
 
@@ -22,16 +22,16 @@ slice-write-out : tie.Need-slice-write-out
 slice-write-out c = search needs
 
 returns-2 : tie.Need-returns-2
-returns-2 c = ratio-filed _ _ _ (c .before .before .before .if1 .left) _ _ (c .enum-told .given .1) (c .before .before .ratio .ensures)
+returns-2 c = ratio-returned _ _ _ (c .before .before .before .if1 .left) _ _ (c .enum-told .given .1) (c .before .before .ratio .ensures)
 
 returns-3 : tie.Need-returns-3
-returns-3 c = ratio-filed _ _ _ (c .before .before .before .before .if1 .left) _ _ (c .before .answer .given .1) (c .before .before .before .ratio .ensures)
+returns-3 c = ratio-returned _ _ _ (c .before .before .before .before .if1 .left) _ _ (c .before .answer .given .1) (c .before .before .before .ratio .ensures)
 
 same-length : tie.Need-same-length
 same-length c = search needs
 
 returns-4 : tie.Need-returns-4
-returns-4 c = ratio-filed _ _ _ (c .before .before .before .before .if1 .left) _ _ (c .before .answer2 .given .1) (c .before .before .before .ratio .ensures)
+returns-4 c = ratio-returned _ _ _ (c .before .before .before .before .if1 .left) _ _ (c .before .answer2 .given .1) (c .before .before .before .ratio .ensures)
 
 pub ctsim-ratio-spec : {M : Type 1} → statement M
 ctsim-ratio-spec =

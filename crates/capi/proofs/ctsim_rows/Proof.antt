@@ -1,5 +1,5 @@
 use borrow.Author.Needs.{needs}
-use Rattle.capi.proofs.Filings.{rows-short, rows-filed}
+use Rattle.capi.proofs.Returns.{rows-short, rows-returned}
 use Rattle.capi.proofs.ctsim_rows.Statement.{statement}
 use Rattle.capi.proofs.ctsim_rows.Tie as tie
 
@@ -22,7 +22,7 @@ same-length : tie.Need-same-length
 same-length c = search needs
 
 returns-2 : tie.Need-returns-2
-returns-2 c = rows-filed _ _ _ _ _ (c .before .before .before .before .before .before .before .if1 .left) _ _ _ (c .before .built .given .1) (c .before .before .before .before .before .rows .ensures)
+returns-2 c = rows-returned _ _ _ _ _ (c .before .before .before .before .before .before .before .if1 .left) _ _ _ (c .before .built .given .1) (c .before .before .before .before .before .rows .ensures)
 
 same-length-2 : tie.Need-same-length-2
 same-length-2 c = search needs
@@ -31,7 +31,7 @@ same-length-3 : tie.Need-same-length-3
 same-length-3 c = search needs
 
 returns-3 : tie.Need-returns-3
-returns-3 c = rows-filed _ _ _ _ _ (c .before .before .before .before .before .before .before .if1 .left) _ _ _ (c .before .built2 .given .1) (c .before .before .before .before .before .rows .ensures)
+returns-3 c = rows-returned _ _ _ _ _ (c .before .before .before .before .before .before .before .if1 .left) _ _ _ (c .before .built2 .given .1) (c .before .before .before .before .before .rows .ensures)
 
 pub ctsim-rows-spec : {M : Type 1} → statement M
 ctsim-rows-spec =

@@ -1,5 +1,5 @@
 use borrow.Author.Needs.{needs}
-use Rattle.capi.proofs.Filings.{run-short, run-filed}
+use Rattle.capi.proofs.Returns.{run-short, run-returned}
 use Rattle.capi.proofs.ctsim_run_rows.Statement.{statement}
 use Rattle.capi.proofs.ctsim_run_rows.Tie as tie
 
@@ -12,8 +12,8 @@ config-of-requires c κs = search needs
 run-rows-requires : tie.Need-run-rows-requires
 run-rows-requires c κs = search needs
 
-file-answer-requires : tie.Need-file-answer-requires
-file-answer-requires c κs = search needs
+write-answer-requires : tie.Need-write-answer-requires
+write-answer-requires c κs = search needs
 
 same-length : tie.Need-same-length
 same-length c = search needs
@@ -28,7 +28,7 @@ same-length-4 : tie.Need-same-length-4
 same-length-4 c = search needs
 
 returns-2 : tie.Need-returns-2
-returns-2 c = run-filed _ _ _ _ _ _ _ (c .before .before .before .before .before .before .before .before .before .before .before .before .before .before .before .if1 .left) _ _ _ _ _ _ _ (c .before .before .file-answer .ensures) (c .before .before .before .before .before .before .before .before .before .before .before .before .before .before .config-of .ensures) (c .before .before .before .before .before .before .before .before .before .before .run-rows .ensures)
+returns-2 c = run-returned _ _ _ _ _ _ _ (c .before .before .before .before .before .before .before .before .before .before .before .before .before .before .before .if1 .left) _ _ _ _ _ _ _ (c .before .before .write-answer .ensures) (c .before .before .before .before .before .before .before .before .before .before .before .before .before .before .config-of .ensures) (c .before .before .before .before .before .before .before .before .before .before .run-rows .ensures)
 
 pub ctsim-run-rows-spec : {M : Type 1} → statement M
 ctsim-run-rows-spec =
@@ -37,7 +37,7 @@ ctsim-run-rows-spec =
     returns
     config-of-requires
     run-rows-requires
-    file-answer-requires
+    write-answer-requires
     same-length
     same-length-2
     same-length-3

@@ -1,5 +1,5 @@
 use borrow.Author.Needs.{needs}
-use Rattle.capi.proofs.Filings.{topology-short, topology-filed}
+use Rattle.capi.proofs.Returns.{topology-short, topology-returned}
 use Rattle.capi.proofs.ctsim_run_topology.Statement.{statement}
 use Rattle.capi.proofs.ctsim_run_topology.Tie as tie
 
@@ -12,8 +12,8 @@ config-of-requires c κs = search needs
 run-topology-requires : tie.Need-run-topology-requires
 run-topology-requires c κs = search needs
 
-file-answer-requires : tie.Need-file-answer-requires
-file-answer-requires c κs = search needs
+write-answer-requires : tie.Need-write-answer-requires
+write-answer-requires c κs = search needs
 
 same-length : tie.Need-same-length
 same-length c = search needs
@@ -28,7 +28,7 @@ same-length-4 : tie.Need-same-length-4
 same-length-4 c = search needs
 
 returns-2 : tie.Need-returns-2
-returns-2 c = topology-filed _ _ _ _ _ _ _ _ (c .before .before .before .before .before .before .before .before .before .before .before .before .before .before .before .if1 .left) _ _ _ _ _ _ _ (c .before .before .file-answer .ensures) (c .before .before .before .before .before .before .before .before .before .before .before .before .before .before .config-of .ensures) (c .before .before .before .before .before .before .before .before .before .before .run-topology .ensures)
+returns-2 c = topology-returned _ _ _ _ _ _ _ _ (c .before .before .before .before .before .before .before .before .before .before .before .before .before .before .before .if1 .left) _ _ _ _ _ _ _ (c .before .before .write-answer .ensures) (c .before .before .before .before .before .before .before .before .before .before .before .before .before .before .config-of .ensures) (c .before .before .before .before .before .before .before .before .before .before .run-topology .ensures)
 
 pub ctsim-run-topology-spec : {M : Type 1} → statement M
 ctsim-run-topology-spec =
@@ -37,7 +37,7 @@ ctsim-run-topology-spec =
     returns
     config-of-requires
     run-topology-requires
-    file-answer-requires
+    write-answer-requires
     same-length
     same-length-2
     same-length-3

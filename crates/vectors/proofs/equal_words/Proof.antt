@@ -2,9 +2,6 @@ use Prim.Native.Nat.{_-_, _≤_}
 use borrow.Author.Needs.{needs}
 use Rattle.vectors.proofs.equal_words.Statement.{statement}
 use Rattle.vectors.proofs.equal_words.Tie as tie
-use Rattle.vectors.proofs.equal_words.Reads as reads
-use Rattle.vectors.proofs.equal_words.Lts as lts
-use Rattle.vectors.proofs.one_if.Reads as one-if-reads
 
 abbrev Inv-loop : tie.InvT-loop
 Inv-loop a b n₀ i₀ n i = (i ≤ 16) × (n ≤ i)
@@ -12,64 +9,10 @@ Inv-loop a b n₀ i₀ n i = (i ≤ 16) × (n ≤ i)
 abbrev μ-loop : tie.MeasureT-loop
 μ-loop a b n₀ i₀ n i = 16 - i
 
--- src/main.rt:31:5
-loop-holds : tie.Need-loop-holds Inv-loop μ-loop
-loop-holds c = search needs
-
--- src/main.rt:32:21
-mul-one-if : tie.Need-mul-one-if Inv-loop μ-loop
-mul-one-if c = search needs
-
--- src/main.rt:32:21
-array-read-one-if : tie.Need-array-read-one-if Inv-loop μ-loop
-array-read-one-if c = search needs
-
--- src/main.rt:32:29
-mul-one-if-2 : tie.Need-mul-one-if-2 Inv-loop μ-loop
-mul-one-if-2 c = search needs
-
--- src/main.rt:32:29
-array-read-one-if-2 : tie.Need-array-read-one-if-2 Inv-loop μ-loop
-array-read-one-if-2 c = search needs
-
--- src/main.rt:32:14
-one-if-requires : tie.Need-one-if-requires Inv-loop μ-loop
-one-if-requires c κs = search needs
-
--- src/main.rt:32:9
-add-n : tie.Need-add-n Inv-loop μ-loop
-add-n c = search needs
-
--- src/main.rt:31:9
-add-i : tie.Need-add-i Inv-loop μ-loop
-add-i c = search needs
-
--- src/main.rt:31:5
-loop-less : tie.Need-loop-less Inv-loop μ-loop
-loop-less c = search needs
-
--- src/main.rt:31:5
-loop-again : tie.Need-loop-again Inv-loop μ-loop
-loop-again c = search needs
-
--- src/main.rt:29:1
-returns : tie.Need-returns Inv-loop μ-loop
-returns c = search needs
-
 pub equal-words-spec : {M : Type 1} → statement M
 equal-words-spec =
     tie.close
     (tie.spec
-    Inv-loop
-    μ-loop
-    loop-holds
-    mul-one-if
-    array-read-one-if
-    mul-one-if-2
-    array-read-one-if-2
-    one-if-requires
-    add-n
-    add-i
-    loop-less
-    loop-again
-    returns)
+    Inv-loop μ-loop (λ c. search needs) (λ c. search needs) (λ c. search needs) (λ c. search needs)
+    (λ c. search needs) (λ c κs. search needs) (λ c. search needs) (λ c. search needs)
+    (λ c. search needs) (λ c. search needs) (λ c. search needs))

@@ -10,12 +10,12 @@ use lib.Pow.{pow-pos}
 use Rattle.network.specs.Graph.{has, any}
 use Rattle.network.proofs.Sets.{has-out, has-below}
 use Rattle.network.proofs.Lowest.{Walked, Next, walked-none, walked-next, walked-all, nonzero}
-use Rattle.network.proofs.Spread.{beside, beside-stop, beside-or, beside-is}
+use Rattle.network.proofs.Spread.{touches, touches-stop, touches-or, touches-is}
 use Rattle.network.proofs.distance.neighbours.Statement.{statement}
 use Rattle.network.proofs.distance.neighbours.Tie as tie
 
 abbrev Inv-loop : tie.InvT-loop
-Inv-loop rows n edge found₀ rest₀ found rest = (m : ℕ) × (m ≤ n) × Walked edge rest m × (found < 2 ^ n) × ((j : ℕ) → has found j ≡ beside rows edge m j)
+Inv-loop rows n edge found₀ rest₀ found rest = (m : ℕ) × (m ≤ n) × Walked edge rest m × (found < 2 ^ n) × ((j : ℕ) → has found j ≡ touches rows edge m j)
 
 abbrev μ-loop : tie.MeasureT-loop
 μ-loop rows n edge found₀ rest₀ found rest = rest
@@ -28,7 +28,7 @@ node : (c : tie.In-loop Inv-loop μ-loop) → trailingZeros 64 (c .before .loop 
 node c = has-below (c .before .before .pre .1 .1) _ (next c .is)
 
 loop-holds : tie.Need-loop-holds Inv-loop μ-loop
-unfolding beside any
+unfolding touches any
 loop-holds c = (0, zero-le, walked-none (c .args .edge), pow-pos (c .args .n), λ j. has-out {n = 0} (pow-pos 0) j zero-le)
 
 cast-t : tie.Need-cast-t Inv-loop μ-loop
@@ -57,29 +57,21 @@ loop-again c =
       omega (arith, node (c .before)),
       x .onward,
       or-lt (a .n) (l .found) (getD (a .rows .now) t 0) (l .inv .3) (b .before .pre .1 .0 .narrow t (node (c .before))),
-      beside-or (a .rows .now) (a .edge) (l .found) (l .inv .4) (x .from) (x .none) (x .is),
+      touches-or (a .rows .now) (a .edge) (l .found) (l .inv .4) (x .from) (x .none) (x .is),
     )
 
 returns : tie.Need-returns Inv-loop μ-loop
-unfolding beside
+unfolding touches
 returns c =
     let a = c .before .before .args in
     let l = c .before .loop in
     let done : Walked (a .edge) 0 (l .inv .0) = subst (λ (r : ℕ). Walked (a .edge) r (l .inv .0)) (c .loop-test .left) (l .inv .2) in
-    beside-is (a .rows .now) (a .edge) (a .n) (l .found) (l .inv .3)
-    (λ j. l .inv .4 j ∙ beside-stop (a .rows .now) (a .edge) j (l .inv .1) (λ i m _. walked-all done i m))
+    touches-is (a .rows .now) (a .edge) (a .n) (l .found) (l .inv .3)
+    (λ j. l .inv .4 j ∙ touches-stop (a .rows .now) (a .edge) j (l .inv .1) (λ i m _. walked-all done i m))
 
 pub neighbours-spec : {M : Type 1} → statement M
 neighbours-spec =
     tie.close
     (tie.spec
-    Inv-loop
-    μ-loop
-    loop-holds
-    cast-t
-    mul-found
-    element-copy-out-found
-    sub-rest
-    loop-less
-    loop-again
+    Inv-loop μ-loop loop-holds cast-t mul-found element-copy-out-found sub-rest loop-less loop-again
     returns)

@@ -6,12 +6,10 @@ use borrow.Author.Needs.{needs}
 use Rattle.network.proofs.graph.has.Statement.{statement}
 use Rattle.network.proofs.graph.has.Tie as tie
 
-shr-result : tie.Need-shr-result
-shr-result c = search needs
-
 returns : tie.Need-returns
 unfolding has
 returns c = refl
 
 pub has-spec : {M : Type 1} → statement M
-has-spec = tie.close (tie.spec shr-result returns)
+has-spec =
+    tie.close (tie.spec (λ c. search needs) returns)

@@ -1,89 +1,89 @@
--- `network::topology::rows` meets its contract: each arm is the builder of its number, and any other number is none of the six.
+-- `network::topology::rows` meets its contract: it adds question 10 to those of `build_graph`, and copies its rows.
 -- Assumes nothing.
-use Rattle.network.proofs.Within.{unnamed}
+use mathlib.Core.Path.{_≡_, sym, ap, _∙_}
+use mathlib.Core.Bool.{Bool}
+use mathlib.Core.List.{List, [], _∷_, _++_}
+use Prim.Native.Nat.{ℕ}
+use native.Mathlib.Nat.{lt-of-lt-of-le}
+use native.Mathlib.Omega.{arith}
 use borrow.Author.Needs.{needs}
+use borrow.Author.Tests.{le-leb, lt-leb}
+use lib.Dec.{leb}
+use lib.ListN.{length, take, drop}
+use lib.Pow.{pow-mono}
+use Rattle.random.proofs.Tables.{length-tabulate}
+use Rattle.network.specs.Questions.{firstNo, nodesOf, topologyQuestions}
+use Rattle.network.specs.Topology.{topologyOf, topologyRow, topologyRows, withRows, answered}
+use Rattle.network.specs.declared.topology.Built.the-variants.{Nodes}
+use Rattle.network.proofs.Built.{GraphBuilt, graph-refused, graph-built}
+use Rattle.network.proofs.Rows.{take-widened}
+use Rattle.network.proofs.Within.{first-no, all-yes}
 use Rattle.network.proofs.topology.rows.Statement.{statement}
 use Rattle.network.proofs.topology.rows.Tie as tie
 
-full-mesh-requires : tie.Need-full-mesh-requires
-full-mesh-requires c κs = search needs
+-- what question 10 adds, where the others pass
+tenth : (topology first second : ℕ) (out : List ℕ) → List (Bool × ℕ)
+tenth topology first second out = (leb (nodesOf topology first second) (length out), 10) ∷ []
 
-line-requires : tie.Need-line-requires
-line-requires c κs = search needs
-
-star-requires : tie.Need-star-requires
-star-requires c κs = search needs
-
-grid-requires : tie.Need-grid-requires
-grid-requires c κs = search needs
-
-ring-requires : tie.Need-ring-requires
-ring-requires c κs = search needs
-
-tree-requires : tie.Need-tree-requires
-tree-requires c κs = search needs
-
-same-length : tie.Need-same-length
-same-length c = search needs
+-- the graph that was built
+built : (c : tie.After-known-told2) → let s = c .before .before .before .before .before in
+    GraphBuilt (s .args .topology) (s .args .first) (s .args .second) (c .before .answer2 .given .0 .0) (c .before .before .before .build-graph .result .rows)
+built c =
+    let g = c .before .before .before in
+    let s = g .before .before in
+    graph-built (s .args .topology) (s .args .first) (s .args .second) (g .build-graph .result) (g .build-graph .ensures) _ (c .before .answer2 .given .1)
 
 returns : tie.Need-returns
-returns c = rw (c .before .before .before .before .match .keys1) (c .before .before .full-mesh .ensures)
+unfolding tenth
+returns c =
+    let a = c .before .before .before .before .before .before .args in
+    let b = built (c .before) in
+    let n = nodesOf (a .topology) (a .first) (a .second) in
+    sym
+    (ap (answered (topologyOf (a .topology) (a .second)) n (a .out .now))
+    (all-yes (topologyQuestions (a .topology) (a .first) (a .second)) (tenth (a .topology) (a .first) (a .second) (a .out .now)) (b .passes)
+    ∙ ap (λ (x : Bool). firstNo ((x, 10) ∷ [])) (lt-leb n (length (a .out .now)) (omega (arith, b .nodes)))))
 
-same-length-2 : tie.Need-same-length-2
-same-length-2 c = search needs
+copy-rows-requires : tie.Need-copy-rows-requires
+copy-rows-requires c κs =
+    let b = built (c .before .before .before .before) in
+    ((b .checked .enough, c .before .before .before .if1 .left), λ i h. lt-of-lt-of-le (b .checked .narrow i h) (pow-mono {j = 32} (b .within .1)))
 
 returns-2 : tie.Need-returns-2
-returns-2 c = rw (c .before .before .before .before .match .keys2) (c .before .before .line .ensures)
+unfolding tenth
+returns-2 c =
+    let g = c .before .before .before in
+    let a = g .before .before .args in
+    sym
+    (ap (answered (topologyOf (a .topology) (a .second)) (nodesOf (a .topology) (a .first) (a .second)) (a .out .now))
+    (first-no (topologyQuestions (a .topology) (a .first) (a .second)) (tenth (a .topology) (a .first) (a .second) (a .out .now)) _
+    (graph-refused (a .topology) (a .first) (a .second) (g .build-graph .result) (g .build-graph .ensures) _ (c .before .answer .given .1))))
 
-same-length-3 : tie.Need-same-length-3
-same-length-3 c = search needs
+-- the first rows in place are the topology's
+placed : {topology first second n : ℕ} {rows : List ℕ} → GraphBuilt topology first second n rows → (out : List ℕ) → take n rows ++ drop n out ≡ withRows (topologyOf topology second) n out
+unfolding withRows topologyRows
+placed {topology} {first} {second} {n} {rows} b out =
+    let t = topologyOf topology second in
+    ap (λ (l : List ℕ). l ++ drop n out) (ap (take n) (b .is) ∙ take-widened (topologyRows t n) n (length-tabulate n (topologyRow t n)))
 
 returns-3 : tie.Need-returns-3
-returns-3 c = rw (c .before .before .before .before .match .keys3) (c .before .before .star .ensures)
-
-same-length-4 : tie.Need-same-length-4
-same-length-4 c = search needs
-
-returns-4 : tie.Need-returns-4
-returns-4 c = rw (c .before .before .before .before .match .keys4) (c .before .before .grid .ensures)
-
-same-length-5 : tie.Need-same-length-5
-same-length-5 c = search needs
-
-returns-5 : tie.Need-returns-5
-returns-5 c = rw (c .before .before .before .before .match .keys5) (c .before .before .ring .ensures)
-
-same-length-6 : tie.Need-same-length-6
-same-length-6 c = search needs
-
-returns-6 : tie.Need-returns-6
-returns-6 c = rw (c .before .before .before .before .match .keys6) (c .before .before .tree .ensures)
-
-returns-7 : tie.Need-returns-7
-returns-7 c =
-    let r = c .match .rest in
-    rw (unnamed (c .before .before .args .topology) (r .0 .0 .0 .0 .0 .1) (r .0 .0 .0 .0 .1) (r .0 .0 .0 .1) (r .0 .0 .1) (r .0 .1) (r .1))
+unfolding tenth
+returns-3 c =
+    let k = c .before .before .before .before .before .before .before in
+    let a = k .before .before .before .before .before .args in
+    let b = built k in
+    let n = nodesOf (a .topology) (a .first) (a .second) in
+    let t = topologyOf (a .topology) (a .second) in
+    let left = c .before .before .before .before .before .before .if1 .left in
+    (λ i. (Nodes (b .nodes i), (c .before .before .copy-rows .ensures ∙ placed b (a .out .now) ∙ ap (λ (m : ℕ). withRows t m (a .out .now)) (b .nodes)) i))
+    ∙ sym
+    (ap (answered t n (a .out .now))
+    (all-yes (topologyQuestions (a .topology) (a .first) (a .second)) (tenth (a .topology) (a .first) (a .second) (a .out .now)) (b .passes)
+    ∙ ap (λ (x : Bool). firstNo ((x, 10) ∷ [])) (le-leb n (length (a .out .now)) (omega (arith, b .nodes, left)))))
 
 pub rows-spec : {M : Type 1} → statement M
 rows-spec =
     tie.close
     (tie.spec
-    full-mesh-requires
-    line-requires
-    star-requires
-    grid-requires
-    ring-requires
-    tree-requires
-    same-length
-    returns
-    same-length-2
-    returns-2
-    same-length-3
-    returns-3
-    same-length-4
-    returns-4
-    same-length-5
-    returns-5
-    same-length-6
-    returns-6
-    returns-7)
+    (λ c κs. search needs) (λ c. search needs) (λ c. search needs) returns (λ c. search needs)
+    copy-rows-requires returns-2 (λ c. search needs) returns-3)

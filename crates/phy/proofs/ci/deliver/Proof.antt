@@ -1,17 +1,17 @@
-use Prim.Native.Nat.{ℕ, _-_, _*_, _%_, _^_, _≤_, _<_}
+use Prim.Native.Nat.{ℕ, _-_, _^_, _<_}
 use mathlib.Core.Path.{_≡_, ap, subst, subst⁻¹, _∙_}
 use mathlib.Core.Bool.{_&&_}
 use mathlib.Core.List.{List}
-use native.Mathlib.Nat.{mod-lt}
 use native.Mathlib.Omega.{arith}
 use borrow.Author.Needs.{needs}
 use denote.Ref.{now}
 use lib.Bits.{bitAnd, bitOr, and-le-l, or-lt}
 use lib.Count.{ones, ones-le}
-use lib.Pow.{pow-pos}
+use Rattle.config.specs.Limits.{maxNodes}
 use Rattle.network.specs.Graph.{has, setOf}
 use Rattle.network.proofs.Sets.{one-shl, setOf-lt}
 use Rattle.phy.specs.declared.ci.Delivered.{Delivered}
+use Rattle.phy.specs.Limits.{setBits}
 use Rattle.phy.specs.View.{GaveAll, Delivers, sameNumbers}
 use Rattle.phy.proofs.Deliveries.{asleep-few, kept-few, same, delivers}
 use Rattle.phy.proofs.ci.deliver.Statement.{statement}
@@ -25,79 +25,68 @@ delivers-as : {n first : ℕ} {packet : List ℕ} {awake before : ℕ} {h : List
     → Delivers n first packet awake before h r' h'
 delivers-as {n} {first} {packet} {awake} {before} {h} {r} {r'} {h'} e d = subst⁻¹ (λ (x : Delivered). Delivers n first packet awake before h x h') e d
 
-shl-all : tie.Need-shl-all
-shl-all c = search needs
-
-sub-all : tie.Need-sub-all
-sub-all c = let start = c .before in let n = start .args .n in subst⁻¹ (λ (a : ℕ). 1 ≤ a) (one-shl 64 n (omega (arith, start .pre .0))) (pow-pos n)
+full-set-requires : tie.Need-full-set-requires
+full-set-requires c κs = search needs
 
 sub-asleep : tie.Need-sub-asleep
 sub-asleep c = and-le-l _ _
 
 holders-requires : tie.Need-holders-requires
 holders-requires c κs =
-    let a = c .before .before .args in
-    let pre = c .before .before .pre in (
-      pre .2,
-      pre .3,
-      subst⁻¹ (λ (w : ℕ). bitAnd (bitAnd (w - 1) (a .before)) (a .awake) < 2 ^ 32) (one-shl 64 (a .n) (omega (arith, pre .0)))
-          (kept-few (a .n) (a .initiator .0) (a .packet) (a .awake) (a .before) (now (a .held)) (pre .0) (pre .1)),
-    )
+    let start = c .before .before in
+    let a = start .args in
+    subst⁻¹ (λ (w : ℕ). bitAnd (bitAnd w (a .before)) (a .awake) < 2 ^ maxNodes) (c .before .full-set .ensures)
+    (kept-few (a .n) (a .initiator .0) (a .packet) (a .awake) (a .before) (now (a .held)) (start .pre .0) (start .pre .1))
 
 give-all-requires : tie.Need-give-all-requires
 give-all-requires c κs =
-    let a = c .before .before .before .before .args in
-    let pre = c .before .before .before .before .pre in (
-      pre .2,
-      pre .3,
-      subst⁻¹ (λ (w : ℕ). w - 1 - bitAnd (w - 1) (a .awake) < 2 ^ 32) (one-shl 64 (a .n) (omega (arith, pre .0)))
-          (asleep-few (a .n) (a .initiator .0) (a .packet) (a .awake) (a .before) (now (a .held)) (pre .0) (pre .1)),
+    let start = c .before .before .before .before in
+    let a = start .args in (
+      subst⁻¹ (λ (w : ℕ). w - bitAnd w (a .awake) < 2 ^ maxNodes) (c .before .before .before .full-set .ensures)
+          (asleep-few (a .n) (a .initiator .0) (a .packet) (a .awake) (a .before) (now (a .held)) (start .pre .0) (start .pre .1)),
+      start .pre .2,
     )
 
-shl-t13 : tie.Need-shl-t13
-shl-t13 c = search needs
+shl-t16 : tie.Need-shl-t16
+shl-t16 c = search needs
 
-cast-t22 : tie.Need-cast-t22
-cast-t22 c =
-    let a = c .before .before .before .before .before .before .before .args in
-    let all = 1 * 2 ^ a .n % 2 ^ 64 - 1 in
-    let found = c .before .before .before .before .holders in
-    let few : found .result < 2 ^ 32 = subst⁻¹ (λ (k : ℕ). k < 2 ^ 32) (found .ensures) (setOf-lt 32 _) in
-    omega (arith, ones-le 64 _ (or-lt 64 (all - bitAnd all (a .awake)) (found .result) (omega (arith, mod-lt (1 * 2 ^ a .n) (pow-pos 64))) (omega (arith, few))))
-
-same-length : tie.Need-same-length
-same-length c = search needs
+cast-t20 : tie.Need-cast-t20
+cast-t20 c =
+    let a = c .before .before .before .before .before .args in
+    let found = c .before .before .holders in
+    let all = c .before .before .before .before .full-set in
+    let few : found .result < 2 ^ maxNodes = subst⁻¹ (λ (k : ℕ). k < 2 ^ maxNodes) (found .ensures) (setOf-lt maxNodes _) in
+    omega (arith, ones-le setBits _ (or-lt setBits (all .result - bitAnd (all .result) (a .awake)) (found .result) (omega (arith, all .ok)) (omega (arith, few))))
 
 returns : tie.Need-returns
 returns c =
-    let a = c .before .before .before .before .before .before .before .args in
-    let pre = c .before .before .before .before .before .before .before .pre in
+    let start = c .before .before .before .before .before in
+    let a = start .args in
+    let few = start .pre .0 in
+    let node = start .pre .1 in
     let h = now (a .held) in
     let awake = a .awake in
-    let all = one-shl 64 (a .n) (omega (arith, pre .0)) in
-    let own = one-shl 64 (a .initiator .0) (omega (arith, pre .0, pre .1)) in
-    let found : c .before .before .before .before .holders .result ≡ same (a .n) (a .initiator .0) (a .packet) awake (a .before) h (pre .0) (pre .1)
-    = c .before .before .before .before .holders .ensures ∙ ap (λ (w : ℕ). setOf 32 (λ (k : ℕ). has (bitAnd (bitAnd (w - 1) (a .before)) awake) k && sameNumbers h (a .packet) k)) all in
-    let gave = gave-as (ap (λ (w : ℕ). w - 1 - bitAnd (w - 1) awake) all) (c .before .before .give-all .ensures) in
+    let all = c .before .before .before .before .full-set .ensures in
+    let own = one-shl setBits (a .initiator .0) (omega (arith, few, node)) in
+    let found : c .before .before .holders .result ≡ same (a .n) (a .initiator .0) (a .packet) awake (a .before) h few node
+    = c .before .before .holders .ensures ∙ ap (λ (w : ℕ). setOf maxNodes (λ (k : ℕ). has (bitAnd (bitAnd w (a .before)) awake) k && sameNumbers h (a .packet) k)) all in
     delivers-as
     (λ i.
     record {
-      part = bitOr (all i - 1 - bitAnd (all i - 1) awake) (own i);
-      covered = ones (bitOr (all i - 1 - bitAnd (all i - 1) awake) (found i));
-      holding = bitOr (all i - 1 - bitAnd (all i - 1) awake) (bitAnd (all i - 1) (a .before));
+      part = bitOr (all i - bitAnd (all i) awake) (own i);
+      covered = ones (bitOr (all i - bitAnd (all i) awake) (found i));
+      holding = bitOr (all i - bitAnd (all i) awake) (bitAnd (all i) (a .before));
     })
-    (delivers (a .n) (a .initiator .0) (a .packet) awake (a .before) h (pre .0) (pre .1) gave)
+    (delivers (a .n) (a .initiator .0) (a .packet) awake (a .before) h few node (gave-as (ap (λ (w : ℕ). w - bitAnd w awake) all) (c .give-all .ensures)))
 
 pub deliver-spec : {M : Type 1} → statement M
 deliver-spec =
     tie.close
     (tie.spec
-    shl-all
-    sub-all
+    full-set-requires
     sub-asleep
     holders-requires
     give-all-requires
-    shl-t13
-    cast-t22
-    same-length
+    shl-t16
+    cast-t20
     returns)

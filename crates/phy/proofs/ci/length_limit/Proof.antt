@@ -4,7 +4,7 @@ use native.Mathlib.Nat.{mul-le-mul}
 use native.Mathlib.Omega.{arith}
 use borrow.Author.Needs.{needs}
 use Rattle.phy.specs.Round.{lengthLimit}
-use Rattle.phy.specs.declared.ci.RoundSlots.{RoundSlots}
+use Rattle.config.specs.declared.RoundSlots.{RoundSlots}
 use Rattle.phy.proofs.ci.length_limit.Statement.{statement}
 use Rattle.phy.proofs.ci.length_limit.Tie as tie
 

@@ -1,6 +1,7 @@
 use Prim.Native.Nat.{_-_}
 use mathlib.Core.Path.{refl}
 use native.Mathlib.Omega.{arith}
+use Rattle.phy.specs.Limits.{packetSize}
 use Rattle.phy.proofs.Numbers.{Giving, giving-none, giving-more, giving-all}
 use Rattle.phy.proofs.held.give.Statement.{statement}
 use Rattle.phy.proofs.held.give.Tie as tie
@@ -9,10 +10,10 @@ abbrev Inv-loop : tie.InvT-loop
 Inv-loop held₀ packet at k₀ held k = Giving at packet held₀ held k
 
 abbrev μ-loop : tie.MeasureT-loop
-μ-loop held₀ packet at k₀ held k = 12 - k
+μ-loop held₀ packet at k₀ held k = packetSize - k
 
 mul-at : tie.Need-mul-at Inv-loop μ-loop
-mul-at c = omega (arith, c .before .pre .1)
+mul-at c = omega (arith, c .before .pre .0)
 
 loop-holds : tie.Need-loop-holds Inv-loop μ-loop
 loop-holds c = giving-none _ _ _
@@ -21,16 +22,16 @@ mul-held : tie.Need-mul-held Inv-loop μ-loop
 mul-held c = omega arith
 
 array-read-held : tie.Need-array-read-held Inv-loop μ-loop
-array-read-held c = omega (arith, c .before .before .before .pre .0)
+array-read-held c = omega arith
 
 add-held : tie.Need-add-held Inv-loop μ-loop
-add-held c = omega (arith, c .before .before .before .pre .1)
+add-held c = omega (arith, c .before .before .before .pre .0)
 
 mul-held-2 : tie.Need-mul-held-2 Inv-loop μ-loop
-mul-held-2 c = omega (arith, c .before .before .before .pre .1)
+mul-held-2 c = omega (arith, c .before .before .before .pre .0)
 
-slice-write-held : tie.Need-slice-write-held Inv-loop μ-loop
-slice-write-held c = omega (arith, c .before .loop .inv .size, c .before .before .before .pre .1)
+element-write-held : tie.Need-element-write-held Inv-loop μ-loop
+element-write-held c = omega (arith, c .before .before .before .pre .0)
 
 add-k : tie.Need-add-k Inv-loop μ-loop
 add-k c = omega arith
@@ -39,10 +40,7 @@ loop-less : tie.Need-loop-less Inv-loop μ-loop
 loop-less c = omega arith
 
 loop-again : tie.Need-loop-again Inv-loop μ-loop
-loop-again c = giving-more (c .before .loop .inv) (omega arith) (c .before .before .before .pre .1) refl refl
-
-same-length : tie.Need-same-length Inv-loop μ-loop
-same-length c = c .before .loop .inv .size
+loop-again c = let pre = c .before .before .before .pre in giving-more (c .before .loop .inv) (omega arith) (omega (arith, pre .0, pre .1)) refl refl
 
 returns : tie.Need-returns Inv-loop μ-loop
 returns c = giving-all (c .before .loop .inv) (omega arith)
@@ -59,9 +57,8 @@ give-spec =
     array-read-held
     add-held
     mul-held-2
-    slice-write-held
+    element-write-held
     add-k
     loop-less
     loop-again
-    same-length
     returns)

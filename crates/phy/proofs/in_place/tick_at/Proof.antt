@@ -4,6 +4,7 @@ use contract.Monad.{fact, factI}
 use contract.Running.{givenOf, tables, tablesOf}
 use denote.Triple.Spec.{tripleOf}
 use denote.Triple.Table.{entered, cited}
+use Rattle.config.specs.Limits.{maxNodes}
 use Rattle.phy.specs.Node as Spec
 use Rattle.phy.specs.Slot as Slot
 use Rattle.phy.proofs.Through.{Held}
@@ -21,6 +22,6 @@ unfolding code.routine tablesOf
 tick-at-spec 𝓤 H 𝓜 𝓖 𝓡 =
     entered 𝓤 H (tripleOf 𝓤 H (𝓖 .A) tick-at.signature (tick-at.spec 𝓤 H (𝓖 .A) (𝓜 .mem) (𝓡 .run)))
     (tables 𝓤 H 𝓜 𝓡 code.env .C) (tables 𝓤 H 𝓜 𝓡 code.env .Λ) #tick-at code.function (code.unfolded 𝓤 H 𝓜 𝓡)
-    (elem-meets 𝓤 H (𝓖 .A) (λ h. fact 𝓤 (Spec.total h + 1 < 2 ^ 64)) Spec.tick (λ xs i. (i < 32) × (Spec.total (Slot.at xs i) + 1 < 2 ^ 64)) (λ xs i p. (p .0, factI 𝓤 _ _ (p .1)))
+    (elem-meets 𝓤 H (𝓖 .A) (λ h. fact 𝓤 (Spec.total h + 1 < 2 ^ 64)) Spec.tick (λ xs i. (i < maxNodes) × (Spec.total (Slot.at xs i) + 1 < 2 ^ 64)) (λ xs i p. (p .0, factI 𝓤 _ _ (p .1)))
     (givenOf 𝓤 H 𝓜 𝓖) (tablesOf 𝓤 H 𝓜 (tables 𝓤 H 𝓜 𝓡 code.env)) #tick
     (cited 𝓤 H (Held 𝓤 H (𝓖 .A) (λ h. fact 𝓤 (Spec.total h + 1 < 2 ^ 64)) Spec.tick) 𝓜 𝓡 code.env #tick tick.routine code.calls-phy·node·Node·tick (tick-thm.met 𝓤 H 𝓜 𝓖 𝓡)))

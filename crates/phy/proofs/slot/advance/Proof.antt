@@ -1,4 +1,3 @@
-use mathlib.Core.Path.{refl}
 use borrow.Author.Needs.{needs}
 use lib.Bits.{and-le-l}
 use Rattle.phy.proofs.slot.advance.Statement.{statement}
@@ -7,26 +6,25 @@ use Rattle.phy.proofs.slot.advance.Tie as tie
 mul-done : tie.Need-mul-done
 mul-done c = search needs
 
-slice-read-done : tie.Need-slice-read-done
-slice-read-done c = search needs
+element-copy-out-done : tie.Need-element-copy-out-done
+element-copy-out-done c = search needs
 
-mul-ends : tie.Need-mul-ends
-mul-ends c = search needs
+mul-queue : tie.Need-mul-queue
+mul-queue c = search needs
 
-slice-write-ends : tie.Need-slice-write-ends
-slice-write-ends c = search needs
+element-write-queue : tie.Need-element-write-queue
+element-write-queue c = search needs
 
-sub-t9 : tie.Need-sub-t9
-sub-t9 c = and-le-l _ _
+sub-t10 : tie.Need-sub-t10
+sub-t10 c = and-le-l _ _
 
-sub-t11 : tie.Need-sub-t11
-sub-t11 c = and-le-l _ _
-
-same-length : tie.Need-same-length
-same-length c = search needs
+sub-t13 : tie.Need-sub-t13
+sub-t13 c = and-le-l _ _
 
 returns : tie.Need-returns
-returns c = (refl, refl)
+returns c = search needs
 
 pub advance-spec : {M : Type 1} → statement M
-advance-spec = tie.close (tie.spec mul-done slice-read-done mul-ends slice-write-ends sub-t9 sub-t11 same-length returns)
+advance-spec =
+    tie.close
+    (tie.spec mul-done element-copy-out-done mul-queue element-write-queue sub-t10 sub-t13 returns)

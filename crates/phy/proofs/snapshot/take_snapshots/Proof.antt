@@ -1,49 +1,48 @@
-use Prim.Native.Nat.{_≤_, ℕ, suc, _+_, _-_, _*_, _<_}
+use Prim.Native.Nat.{ℕ, suc, _+_, _-_, _*_, _^_, _≤_, _<_}
 use mathlib.Core.List.{List}
-use mathlib.Core.Path.{_≡_, refl, sym, ap, _∙_}
+use mathlib.Core.Path.{_≡_, refl, sym, ap, subst, _∙_}
 use native.Mathlib.Omega.{arith}
 use lib.ListN.{length}
 use Rattle.phy.specs.Slot.{Shots, takeOne, takeWhile}
-use Rattle.phy.specs.View.{shotOf}
-use Rattle.phy.proofs.Snapshots.{none-due, one-due, next-fits, one-more}
+use Rattle.phy.specs.View.{shotOf, Recorded}
+use Rattle.phy.proofs.Snapshots.{none-due, one-due, recorded-one, next-fits, one-more}
 use Rattle.phy.proofs.snapshot.take_snapshots.Statement.{statement}
 use Rattle.phy.proofs.snapshot.take_snapshots.Tie as tie
 
 abbrev Inv-loop : tie.InvT-loop
-Inv-loop interval shown buffer₀ this next₀ count₀ buffer next count =
-    (length buffer ≡ length buffer₀)
+Inv-loop interval shown snapshots₀ this next₀ count₀ snapshots next count =
+    (length snapshots ≡ length snapshots₀)
     × (next ≡ count * interval)
-    × ((most : ℕ)
+    × ((b₀ : List ℕ) (x₀ : Shots) → Recorded next₀ count₀ b₀ snapshots₀ x₀
+    → (most : ℕ) × (x : Shots)
     × (this < next + most)
-    × (takeWhile interval (shotOf shown) this most (record { next = next; count = count; buffer = buffer })
-    ≡ takeWhile interval (shotOf shown) this (suc this) (record { next = next₀; count = count₀; buffer = buffer₀ })))
+    × Recorded next count b₀ snapshots x
+    × (takeWhile interval (shotOf shown) this most x ≡ takeWhile interval (shotOf shown) this (suc this) x₀))
 
 abbrev μ-loop : tie.MeasureT-loop
-μ-loop interval shown buffer₀ this next₀ count₀ buffer next count = suc this - next
+μ-loop interval shown snapshots₀ this next₀ count₀ snapshots next count = suc this - next
 
 loop-holds : tie.Need-loop-holds Inv-loop μ-loop
-loop-holds c = (refl, c .before .pre .2, (suc (c .before .args .slot .0), omega arith, refl))
+loop-holds c = (refl, c .before .pre .2, λ b₀ x₀ r. (suc (c .before .args .slot .0), x₀, omega arith, r, refl))
 
 take-snapshot-requires : tie.Need-take-snapshot-requires Inv-loop μ-loop
 take-snapshot-requires c κs = tt
 
-add-next : tie.Need-add-next Inv-loop μ-loop
-add-next c =
+-- the next snapshot is due, so that the one after it has room
+room : (c : tie.After-slice-known2 Inv-loop μ-loop) → let l = c .before .before .before .before .before .loop in
+    (l .next + c .before .before .before .before .before .before .before .args .interval < 2 ^ 64) × (l .count + 1 < 2 ^ 64)
+room c =
     let l = c .before .before .before .before .before .loop in
-    let a = c .before .before .before .before .before .before .before .args in
-    let pre = c .before .before .before .before .before .before .before .pre in
-    let due : l .count * a .interval ≤ a .slot .0 = omega (arith, l .inv .1, c .before .before .before .before .loop-test .taken) in
-    let room = next-fits (l .count) (a .interval) (a .slot .0) due (pre .0) (omega arith) (pre .1) in
-    record { fits = omega (arith, room .0, l .inv .1) }
+    let start = c .before .before .before .before .before .before .before in
+    let due : l .count * start .args .interval ≤ start .args .slot .0 = omega (arith, l .inv .1, c .before .before .before .before .loop-test .taken) in
+    let fits = next-fits (l .count) (start .args .interval) (start .args .slot .0) due (start .pre .0) (omega arith) (start .pre .1) in
+    (omega (arith, fits .0, l .inv .1), omega (arith, fits .1, start .pre .1))
+
+add-next : tie.Need-add-next Inv-loop μ-loop
+add-next c = record { fits = room c .0 }
 
 add-count : tie.Need-add-count Inv-loop μ-loop
-add-count c =
-    let l = c .before .before .before .before .before .loop in
-    let a = c .before .before .before .before .before .before .before .args in
-    let pre = c .before .before .before .before .before .before .before .pre in
-    let due : l .count * a .interval ≤ a .slot .0 = omega (arith, l .inv .1, c .before .before .before .before .loop-test .taken) in
-    let room = next-fits (l .count) (a .interval) (a .slot .0) due (pre .0) (omega arith) (pre .1) in
-    record { fits = omega (arith, room .1) }
+add-count c = record { fits = room c .1 }
 
 loop-less : tie.Need-loop-less Inv-loop μ-loop
 loop-less c = omega (arith, c .before .before .before .before .before .before .before .pre .0)
@@ -52,23 +51,26 @@ loop-again : tie.Need-loop-again Inv-loop μ-loop
 unfolding takeOne
 loop-again c =
     let l = c .before .before .before .before .before .loop in
-    let a = c .before .before .before .before .before .before .before .args in
-    let pre = c .before .before .before .before .before .before .before .pre in
-    let most = l .inv .2 .0 in
+    let start = c .before .before .before .before .before .before .before in
+    let a = start .args in
     let due : l .next ≤ a .slot .0 = c .before .before .before .before .loop-test .taken in
-    let left : most ≡ suc (most - 1) = omega (arith, l .inv .2 .1, due) in
-    let x : Shots = record { next = l .next; count = l .count; buffer = l .buffer } in
-    let stored = c .before .before .take-snapshot .ensures in (
-      c .before .before .take-snapshot .kept .1 .1 .1 .0 ∙ l .inv .0,
+    let taken = c .before .before .take-snapshot in
+    let shot = shotOf (a .shown) in (
+      taken .kept .1 .1 .1 .0 ∙ l .inv .0,
       ap (λ (k : ℕ). k + a .interval) (l .inv .1) ∙ one-more (l .count) (a .interval),
-      (
-        most - 1,
-        omega (arith, l .inv .2 .1, pre .0),
-        ap (λ (b : List ℕ). takeWhile (a .interval) (shotOf (a .shown)) (a .slot .0) (most - 1) (record { next = l .next + a .interval; count = l .count + 1; buffer = b })) stored
-            ∙ sym (one-due (a .interval) (shotOf (a .shown)) (a .slot .0) (most - 1) x due)
-            ∙ ap (λ (k : ℕ). takeWhile (a .interval) (shotOf (a .shown)) (a .slot .0) k x) (sym left)
-            ∙ l .inv .2 .2,
-      ),
+      λ b₀ x₀ r₀.
+          let so-far = l .inv .2 b₀ x₀ r₀ in
+          let most = so-far .0 in
+          let x = so-far .1 in
+          let left : most ≡ suc (most - 1) = omega (arith, so-far .2, due) in (
+            most - 1,
+            takeOne (a .interval) shot x,
+            omega (arith, so-far .2, start .pre .0),
+            recorded-one (a .interval) shot refl (so-far .3) (taken .ensures),
+            sym (one-due (a .interval) shot (a .slot .0) (most - 1) x (omega (arith, so-far .3 .due, due)))
+                ∙ ap (λ (k : ℕ). takeWhile (a .interval) shot (a .slot .0) k x) (sym left)
+                ∙ so-far .4,
+          ),
     )
 
 same-length : tie.Need-same-length Inv-loop μ-loop
@@ -78,7 +80,13 @@ returns : tie.Need-returns Inv-loop μ-loop
 returns c =
     let l = c .before .loop in
     let a = c .before .before .before .args in
-    sym (none-due (a .interval) (shotOf (a .shown)) (a .slot .0) (l .inv .2 .0) (record { next = l .next; count = l .count; buffer = l .buffer }) (c .loop-test .left)) ∙ l .inv .2 .2
+    record {
+      multiple = l .inv .1;
+      recorded = λ b₀ x₀ r₀.
+          let all = l .inv .2 b₀ x₀ r₀ in
+          subst (Recorded (l .next) (l .count) b₀ (l .snapshots))
+          (sym (none-due (a .interval) (shotOf (a .shown)) (a .slot .0) (all .0) (all .1) (omega (arith, all .3 .due, c .loop-test .left))) ∙ all .4) (all .3);
+    }
 
 pub take-snapshots-spec : {M : Type 1} → statement M
 take-snapshots-spec =

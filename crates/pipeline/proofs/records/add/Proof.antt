@@ -2,62 +2,63 @@ use Prim.Native.Nat.{_^_, _<_}
 use native.Mathlib.Omega.{arith}
 use borrow.Author.Needs.{needs}
 use denote.Ref.{now}
-use lib.ListN.{length-set}
-use Rattle.pipeline.proofs.Filing.{room-left, files-one}
+use Rattle.config.specs.Limits.{maxTerms}
+use Rattle.pipeline.proofs.Recordings.{room-left, records-one}
 use Rattle.pipeline.proofs.records.add.Statement.{statement}
 use Rattle.pipeline.proofs.records.add.Tie as tie
 
+-- there is room for one record more
+room : (c : tie.Start) → c .args .x .count < maxTerms
+room c = room-left (c .args .x) (now (c .args .history)) (c .args .term .0) (c .pre .0) (c .pre .1) (c .pre .2)
+
 mul-at : tie.Need-mul-at
-mul-at c = let a = c .args in omega (arith, room-left (a .x) (now (a .table)) (a .id) (c .pre .0) (c .pre .1) (c .pre .2), c .pre .0 .room)
+mul-at c = omega (arith, room c)
 
 add-at : tie.Need-add-at
-add-at c = let a = c .args in omega (arith, room-left (a .x) (now (a .table)) (a .id) (c .pre .0) (c .pre .1) (c .pre .2), c .pre .0 .room)
+add-at c = omega (arith, room c)
 
 mul-start : tie.Need-mul-start
 mul-start c = search needs
 
-slice-read-start : tie.Need-slice-read-start
-slice-read-start c = search needs
+element-copy-out-start : tie.Need-element-copy-out-start
+element-copy-out-start c = search needs
 
-mul-table : tie.Need-mul-table
-mul-table c = let a = c .before .args in omega (arith, room-left (a .x) (now (a .table)) (a .id) (c .before .pre .0) (c .before .pre .1) (c .before .pre .2), c .before .pre .0 .room)
+mul-history : tie.Need-mul-history
+mul-history c = omega (arith, room (c .before))
 
-slice-write-table : tie.Need-slice-write-table
-slice-write-table c = let a = c .before .args in omega (arith, room-left (a .x) (now (a .table)) (a .id) (c .before .pre .0) (c .before .pre .1) (c .before .pre .2), c .before .pre .0 .room)
+element-write-history : tie.Need-element-write-history
+element-write-history c = omega (arith, room (c .before))
 
-add-table : tie.Need-add-table
-add-table c = let a = c .before .args in omega (arith, room-left (a .x) (now (a .table)) (a .id) (c .before .pre .0) (c .before .pre .1) (c .before .pre .2), c .before .pre .0 .room)
+add-history : tie.Need-add-history
+add-history c = omega (arith, room (c .before))
 
-mul-table-2 : tie.Need-mul-table-2
-mul-table-2 c = let a = c .before .args in omega (arith, room-left (a .x) (now (a .table)) (a .id) (c .before .pre .0) (c .before .pre .1) (c .before .pre .2), c .before .pre .0 .room)
+mul-history-2 : tie.Need-mul-history-2
+mul-history-2 c = omega (arith, room (c .before))
 
-slice-write-table-2 : tie.Need-slice-write-table-2
-slice-write-table-2 c = let a = c .before .args in simp length-set (omega (arith, room-left (a .x) (now (a .table)) (a .id) (c .before .pre .0) (c .before .pre .1) (c .before .pre .2), c .before .pre .0 .room))
+element-write-history-2 : tie.Need-element-write-history-2
+element-write-history-2 c = omega (arith, room (c .before))
 
-add-table-2 : tie.Need-add-table-2
-add-table-2 c = let a = c .before .args in omega (arith, room-left (a .x) (now (a .table)) (a .id) (c .before .pre .0) (c .before .pre .1) (c .before .pre .2), c .before .pre .0 .room)
+add-history-2 : tie.Need-add-history-2
+add-history-2 c = omega (arith, room (c .before))
 
-mul-table-3 : tie.Need-mul-table-3
-mul-table-3 c = let a = c .before .args in omega (arith, room-left (a .x) (now (a .table)) (a .id) (c .before .pre .0) (c .before .pre .1) (c .before .pre .2), c .before .pre .0 .room)
+mul-history-3 : tie.Need-mul-history-3
+mul-history-3 c = omega (arith, room (c .before))
 
-slice-write-table-3 : tie.Need-slice-write-table-3
-slice-write-table-3 c = let a = c .before .args in simp length-set (omega (arith, room-left (a .x) (now (a .table)) (a .id) (c .before .pre .0) (c .before .pre .1) (c .before .pre .2), c .before .pre .0 .room))
+element-write-history-3 : tie.Need-element-write-history-3
+element-write-history-3 c = omega (arith, room (c .before))
 
-add-t10 : tie.Need-add-t10
-add-t10 c = let a = c .before .before .args in omega (arith, room-left (a .x) (now (a .table)) (a .id) (c .before .before .pre .0) (c .before .before .pre .1) (c .before .before .pre .2), c .before .before .pre .0 .room)
+add-t12 : tie.Need-add-t12
+add-t12 c = omega (arith, room (c .before .before))
 
-shl-t15 : tie.Need-shl-t15
-shl-t15 c = search needs
-
-same-length : tie.Need-same-length
-same-length c = search needs
+shl-t20 : tie.Need-shl-t20
+shl-t20 c = search needs
 
 returns : tie.Need-returns
 returns c =
     let s = c .before .before .before in
     let a = s .args in
     let word : a .x .terms < 2 ^ 64 = omega arith in
-    files-one (a .x) (now (a .table)) (a .id) (a .end) (s .pre .0) (s .pre .1) word (s .pre .2)
+    records-one (a .x) (now (a .history)) (a .term .0) (a .end .0) (s .pre .0) (s .pre .1) word (s .pre .2)
 
 pub add-spec : {M : Type 1} → statement M
 add-spec =
@@ -66,16 +67,15 @@ add-spec =
     mul-at
     add-at
     mul-start
-    slice-read-start
-    mul-table
-    slice-write-table
-    add-table
-    mul-table-2
-    slice-write-table-2
-    add-table-2
-    mul-table-3
-    slice-write-table-3
-    add-t10
-    shl-t15
-    same-length
+    element-copy-out-start
+    mul-history
+    element-write-history
+    add-history
+    mul-history-2
+    element-write-history-2
+    add-history-2
+    mul-history-3
+    element-write-history-3
+    add-t12
+    shl-t20
     returns)

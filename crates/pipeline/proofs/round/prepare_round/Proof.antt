@@ -1,5 +1,5 @@
-use Prim.Native.Nat.{ℕ, _+_, _*_}
-use mathlib.Core.Path.{_≡_, sym, ap, subst, _∙_}
+use Prim.Native.Nat.{ℕ, _+_, _≤_}
+use mathlib.Core.Path.{_≡_, refl, sym, ap, subst, subst⁻¹, _∙_}
 use mathlib.Core.Bool.{cond}
 use mathlib.Core.List.{List, [], _∷_, _++_}
 use native.Mathlib.Omega.{arith}
@@ -7,100 +7,114 @@ use borrow.Author.Needs.{needs}
 use denote.Ref.{now}
 use lib.Dec.{ltb}
 use lib.ListN.{getD, take}
+use Rattle.config.specs.Limits.{maxTerms}
 use Rattle.network.specs.Graph.{has}
 use Rattle.phy.specs.Slot.{among}
 use Rattle.phy.specs.declared.packet.Packet.{Packet}
-use Rattle.protocol.proofs.Chains.{back-mono}
+use Rattle.protocol.specs.Layout.{firstOf}
 use Rattle.protocol.specs.Turns.{Initiated, counted, initiatorTurn}
-use Rattle.protocol.specs.View.{view, Carried}
-use Rattle.pipeline.specs.Round.{stateOf, prepareRound}
-use Rattle.pipeline.specs.View.{sharedOf, statesOf, recordedOf}
-use Rattle.pipeline.proofs.Filing.{files-records}
-use Rattle.pipeline.proofs.Sharing.{started-as, kept-as, counted-is, proposing, at-most-one, state-at, states-set, start-at, starts-filed, starts-records, starts-same, started-same, initiator-newly, kept-set}
+use Rattle.protocol.specs.View.{view, Kept, TermsBelow, Initiates}
+use Rattle.protocol.proofs.Chains.{back-mono}
+use Rattle.pipeline.specs.Round.{stateOf, oneNack, prepareRound}
+use Rattle.pipeline.specs.View.{sharedOf, statesOf}
+use Rattle.pipeline.proofs.Recordings.{records-are}
+use Rattle.pipeline.proofs.Sharing.{started-as, kept-as, counted-is, proposing, nack-at-most, state-at, states-set, start-at, starts-recording, starts-records, starts-same, started-same, initiator-newly, kept-set}
 use Rattle.pipeline.proofs.round.prepare_round.Statement.{statement}
 use Rattle.pipeline.proofs.round.prepare_round.Tie as tie
 
-mul-at : tie.Need-mul-at
-mul-at c = search needs
+-- there is room for the proposal that is made
+room : (s : tie.Start) →
+    let a = s .args in
+    a .x .counter + cond (ltb (a .x .counter) (a .proposals)) 1 0 ≤ maxTerms
+room s = proposing (s .args .x .counter) (s .args .proposals) (s .pre .sharing .few) (s .pre .most)
+
+place-of-requires : tie.Need-place-of-requires
+place-of-requires c κs = search needs
 
 initiator-turn-requires : tie.Need-initiator-turn-requires
 initiator-turn-requires c κs =
-    let start = c .before .before .before .before in
+    let start = c .before .before .before in
     let a = start .args in
-    let most = proposing (a .x .counter) (a .proposals) (start .pre .0 .2 .few) (start .pre .3) in
-    (start .pre .0 .2 .kept .each (a .initiator .0) (start .pre .1), (omega (arith, counted-is (ltb (a .x .counter) (a .proposals)) (a .x .counter), most), omega (arith, start .pre .1, start .pre .2), start .pre .4))
+    let pre = start .pre in
+    record {
+      kept = subst⁻¹ (Kept (a .x .counter) (now (a .states))) (c .before .place-of .ensures) (pre .sharing .kept .each (a .initiator .0) (pre .initiator));
+      few = omega (arith, counted-is (ltb (a .x .counter) (a .proposals)) (a .x .counter), room start);
+      node = omega (arith, pre .initiator, pre .nodes);
+      nodes = pre .two;
+    }
 
 start-requires : tie.Need-start-requires
 start-requires c κs =
-    let start = c .before .before .before .before .before .before .before .before .before in
-    let a = start .args in
-    (start .pre .0 .2 .started, proposing (a .x .counter) (a .proposals) (start .pre .0 .2 .few) (start .pre .3))
+    let start = c .before .before .before .before .before .before .before .before in
+    (start .pre .sharing .started, room start)
 
 record-all-requires : tie.Need-record-all-requires
 record-all-requires c κs =
-    let start = c .before .before .before .before .before .before .before .before .before .before .before .before .before in
-    starts-filed (recordedOf (start .args .x)) (c .before .before .before .start .ensures) (start .pre .0 .2 .filed)
+    let start = c .before .before .before .before .before .before .before .before .before .before .before in
+    starts-recording (start .args .x .recorded) (c .before .before .start .ensures) (start .pre .sharing .recording)
 
 one-if-requires : tie.Need-one-if-requires
 one-if-requires c κs = search needs
 
-add-t24 : tie.Need-add-t24
-add-t24 c =
-    let start = c .before .before .before .before .before .before .before .before .before .before .before .before .before .before .before .before .before in
-    let a = start .args in
-    omega (arith, proposing (a .x .counter) (a .proposals) (start .pre .0 .2 .few) (start .pre .3), c .one-if .ensures)
+add-t23 : tie.Need-add-t23
+add-t23 c = omega (arith, room (c .before .before .before .before .before .before .before .before .before .before .before .before .before), c .one-if .ensures)
 
-one-if-requires-2 : tie.Need-one-if-requires-2
-one-if-requires-2 c κs = search needs
+one-nack-requires : tie.Need-one-nack-requires
+one-nack-requires c κs = search needs
 
-add-t27 : tie.Need-add-t27
-add-t27 c =
-    let start = c .before .before .before .before .before .before .before .before .before .before .before .before .before .before .before .before .before .before .before .before in
-    omega (arith, start .pre .0 .2 .nacks, start .pre .0 .3, c .before .one-if2 .ensures, at-most-one (ltb 0 (c .before .before .before .before .before .before .before .before .before .before .before .before .before .before .before .initiator-turn .result .packet .«nack_term» .0)))
+add-t25 : tie.Need-add-t25
+add-t25 c =
+    let turn-place = c .before .before .before .before .before .before .before .before .before .before .before in
+    let start = turn-place .before .before .before .before in
+    omega (arith, start .pre .nacks, c .before .one-nack .ensures, nack-at-most (turn-place .initiator-turn .result .packet .«nack_term»))
 
 same-length : tie.Need-same-length
 same-length c = search needs
 
-same-length-2 : tie.Need-same-length-2
-same-length-2 c = search needs
-
 returns : tie.Need-returns
 unfolding sharedOf prepareRound
 returns c =
-    let start = c .before .before .before .before .before .before .before .before .before .before .before .before .before .before .before .before .before .before .before .before in
+    let recorded-place = c .before .before .before in
+    let begun-place = recorded-place .before .before .before in
+    let turn-place = begun-place .before .before .before .before .before in
+    let start = turn-place .before .before .before .before in
     let a = start .args in
     let n = a .n in
     let i = a .initiator .0 in
     let x = a .x in
     let held = now (a .states) in
     let b = ltb (x .counter) (a .proposals) in
-    let most = proposing (x .counter) (a .proposals) (start .pre .0 .2 .few) (start .pre .3) in
-    let here = start .pre .1 in
-    let turn = c .before .before .before .before .before .before .before .before .before .before .before .before .before .before .before .initiator-turn in
-    let begun = c .before .before .before .before .before .before .before .before .before .before .start .ensures in
-    let filed = c .before .before .before .before .before .before .record-all in
-    let count : x .counter + c .before .before .before .one-if .result ≡ x .counter + cond b 1 0 = ap (λ (k : ℕ). x .counter + k) (c .before .before .before .one-if .ensures) in
+    let most = room start in
+    let s = start .pre .sharing in
+    let here = start .pre .initiator in
+    let turn = turn-place .initiator-turn in
+    let took = subst (λ (at : ℕ). Initiates at i n (x .counter) b (x .piggyback) held (turn .result) (turn .last .0)) (turn-place .before .before .place-of .ensures) (turn .ensures) in
+    let begun = begun-place .start .ensures in
+    let recorded = recorded-place .record-all in
+    let one = c .before .before .one-if in
+    let nacked = c .before .one-nack .ensures in
+    let count : x .counter + one .result ≡ x .counter + cond b 1 0 = ap (λ (k : ℕ). x .counter + k) (one .ensures) in
     let spec : Initiated = initiatorTurn i n (x .counter) b (x .piggyback) (stateOf (statesOf n held) i) in
-    let same : spec ≡ initiatorTurn i n (x .counter) b (x .piggyback) (view held (195 * i)) = ap (initiatorTurn i n (x .counter) b (x .piggyback)) (state-at n held i here) in
-    let packet : turn .result .packet ≡ spec .packet = turn .ensures .packet ∙ sym (ap (λ (t : Initiated). t .packet) same) in
-    let counted-now : counted b (x .counter) ≡ x .counter + c .before .before .before .one-if .result = counted-is b (x .counter) ∙ sym count in
-    let newly : among 64 (has (turn .result .newly)) ≡ spec .newly
-    = ap (λ (w : ℕ). among 64 (has w)) (turn .ensures .newly) ∙ initiator-newly i n (x .counter) b (x .piggyback) (view held (195 * i)) ∙ sym (ap (λ (t : Initiated). t .newly) same) in
-    let states = states-set n held _ i (spec .state) (start .pre .0 .2 .kept) here (turn .ensures .wrote) (turn .ensures .state ∙ sym (ap (λ (t : Initiated). t .state) same)) in
-    let starts = starts-same (filed .ensures) (x .counter + c .before .before .before .one-if .result) (x .counter + cond b 1 0) count most ∙ begun .starts in
-    let records = files-records (take (x .counter) (now (a .table)) ++ cond b (a .slot .0 ∷ []) []) (filed .ensures) newly (starts-records (x .records) begun) (λ t. start-at (begun .started) most t ∙ ap (λ (l : List ℕ). getD l t 0) (begun .starts)) in
-    let nacks = ap (λ (k : ℕ). x .nacks + k) (c .before .one-if2 .ensures ∙ ap (λ (q : Packet). cond (ltb 0 (q .«nack_term» .0)) 1 0) packet) in
+    let same : spec ≡ initiatorTurn i n (x .counter) b (x .piggyback) (view held (firstOf i)) = ap (initiatorTurn i n (x .counter) b (x .piggyback)) (state-at n held i here) in
+    let packet : turn .result .packet ≡ spec .packet = took .packet ∙ sym (ap (λ (t : Initiated). t .packet) same) in
+    let counted-now : counted b (x .counter) ≡ x .counter + one .result = counted-is b (x .counter) ∙ sym count in
+    let newly : among maxTerms (has (turn .result .newly)) ≡ spec .newly
+    = ap (λ (w : ℕ). among maxTerms (has w)) (took .newly) ∙ initiator-newly i n (x .counter) b (x .piggyback) (view held (firstOf i)) ∙ sym (ap (λ (t : Initiated). t .newly) same) in
+    let states = states-set n held _ i (spec .state) (s .kept) here (took .wrote) (took .state ∙ sym (ap (λ (t : Initiated). t .state) same)) in
+    let starts = starts-same (recorded .ensures) (x .counter + one .result) (x .counter + cond b 1 0) count most ∙ begun .starts in
+    let records = records-are (take (x .counter) (now (a .history)) ++ cond b (a .slot .0 ∷ []) []) (recorded .ensures) newly (starts-records (x .recorded .count) begun) (λ t. start-at (begun .started) most t ∙ ap (λ (l : List ℕ). getD l t 0) (begun .starts)) in
+    let nacks = ap (λ (k : ℕ). x .nacks + k) (nacked ∙ ap (λ (q : Packet). oneNack (q .«nack_term»)) packet) in
     record {
-      sharing = λ k m s. record {
+      sharing = record {
         few = omega (arith, count, most);
-        kept = kept-set i (s .kept) (omega arith) (omega (arith, count, most)) (turn .ensures .wrote) (kept-as counted-now (turn .ensures .kept));
-        started = started-as (sym count) (started-same (filed .ensures) (begun .started));
-        filed = filed .ensures .filed;
+        kept = kept-set i (s .kept) (omega arith) (omega (arith, count, most)) (took .wrote) (kept-as counted-now (took .kept));
+        started = started-as (sym count) (started-same (recorded .ensures) (begun .started));
+        recording = recorded .ensures .recording;
         back = back-mono (x .piggyback) (omega arith) (s .back);
-        nacks = omega (arith, s .nacks, c .before .one-if2 .ensures, at-most-one (ltb 0 (turn .result .packet .«nack_term» .0)));
-        piggybacks = omega (arith, s .piggybacks);
       };
-      carried = subst (λ (m : ℕ). Carried m (turn .result .packet)) counted-now (turn .ensures .carried (start .pre .0 .2 .back));
+      nacks = omega (arith, nacked, nack-at-most (turn .result .packet .«nack_term»));
+      piggybacks = refl;
+      below = subst (λ (m : ℕ). TermsBelow m (turn .result .packet)) counted-now (took .below (s .back));
       shared = λ j. record {
         states = states j;
         counter = sym counted-now j;
@@ -117,14 +131,13 @@ pub prepare-round-spec : {M : Type 1} → statement M
 prepare-round-spec =
     tie.close
     (tie.spec
-    mul-at
+    place-of-requires
     initiator-turn-requires
     start-requires
     record-all-requires
     one-if-requires
-    add-t24
-    one-if-requires-2
-    add-t27
+    add-t23
+    one-nack-requires
+    add-t25
     same-length
-    same-length-2
     returns)

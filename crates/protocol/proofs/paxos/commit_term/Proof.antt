@@ -1,61 +1,62 @@
 -- `protocol::paxos::commit_term` meets its contract, as `proofs/Steps.antt` has it.
 -- Assumes nothing.
 use borrow.Author.Needs.{needs}
-use Prim.Native.Nat.{ℕ, _+_, _-_, _/_, _%_, _^_, _<_}
+use Prim.Native.Nat.{ℕ, _+_, _-_, _/_, _%_, _^_, _<_, max}
 use mathlib.Core.Bool.{true}
-use mathlib.Core.Path.{_≡_, refl, ap}
+use mathlib.Core.Path.{_≡_, sym, ap, ap₂, _∙_}
 use native.Mathlib.Omega.{arith}
 use borrow.Author.Tests.{eq-eqb, ne-eqb}
 use lib.Bits.{bitOr}
 use lib.Count.{ones}
-use lib.ListN.{getD, set, length-set}
+use lib.ListN.{length-set}
+use Rattle.config.specs.Limits.{maxTerms}
 use Rattle.network.specs.Graph.{has}
 use Rattle.network.proofs.Lowest.{has-le}
-use Rattle.protocol.specs.View.{pendingSet, loggedSet}
+use Rattle.protocol.specs.View.{pendingSet, lastAt}
 use Rattle.protocol.proofs.Sets.{bit-word}
-use Rattle.protocol.proofs.Kept.{risen}
 use Rattle.protocol.proofs.Steps.{commit-absent, commit-room, commit-pending}
 use Rattle.protocol.proofs.paxos.commit_term.Statement.{statement}
 use Rattle.protocol.proofs.paxos.commit_term.Tie as tie
 
-is-pending : (c : tie.After-slice-known4) →
-    let a = c .before .before .before .before .before .before .args in
+-- what is read before the branch
+module _ (c : tie.After-larger) where
+  abbrev start : tie.Start
+  start = c .before .before .before .before .before .before
+
+  abbrev pending : ℕ
+  pending = c .before .before .before .pending-set .result
+
+  pending-is : pending ≡ pendingSet (start .args .states .now) (start .args .at)
+  pending-is = c .before .before .before .pending-set .ensures
+
+  last-is : c .larger .result ≡ max (lastAt (start .args .states .now) (start .args .at)) (start .args .term .0 + 1)
+  last-is = c .larger .ensures ∙ ap (λ (x : ℕ). max x (start .args .term .0 + 1)) (c .before .after-last .ensures)
+
+is-pending : (c : tie.Then1) →
+    let a = start (c .before) .args in
     has (pendingSet (a .states .now) (a .at)) (a .term .0) ≡ true
 unfolding has
 is-pending c =
-    let a = c .before .before .before .before .before .before .args in
-    eq-eqb (pendingSet (a .states .now) (a .at) / 2 ^ (a .term .0) % 2) 1 (c .before .if1 .taken)
+    let t = start (c .before) .args .term .0 in
+    ap (λ (x : ℕ). has x t) (sym (pending-is (c .before))) ∙ eq-eqb (pending (c .before) / 2 ^ t % 2) 1 (c .if1 .taken)
 
 -- the log has room for one more
-room : (c : tie.After-slice-known4) →
-    let a = c .before .before .before .before .before .before .args in
-    ones (getD (set (a .states .now) (a .at + 194) (c .before .before .larger .result)) (a .at + 193) 0) < 64
+room : (c : tie.After-logged-set) → ones (c .logged-set .result) < maxTerms
 room c =
-    let b = c .before .before .before .before .before .before in
-    let a = b .args in
-    commit-room (a .states .now) (a .at) (a .term .0) (c .before .before .larger .result) (b .pre .0) (b .pre .1 .1) (c .before .before .larger .ensures)
-    (b .pre .1 .0) (is-pending c)
+    let e = c .before .before in
+    let s = start (e .before) in
+    let a = s .args in
+    let few = commit-room (a .states .now) (a .at) (a .term .0) (e .before .larger .result) (s .pre .0) (s .pre .2) (last-is (e .before)) (s .pre .1) (is-pending e) in
+    omega (arith, ap ones (c .logged-set .ensures), few)
 
-add-pending : tie.Need-add-pending
-add-pending c = search needs
+pending-set-requires : tie.Need-pending-set-requires
+pending-set-requires c κs = search needs
 
-mul-pending : tie.Need-mul-pending
-mul-pending c = search needs
-
-slice-read-pending : tie.Need-slice-read-pending
-slice-read-pending c = search needs
+after-last-requires : tie.Need-after-last-requires
+after-last-requires c κs = search needs
 
 add-larger : tie.Need-add-larger
 add-larger c = search needs
-
-mul-larger : tie.Need-mul-larger
-mul-larger c = search needs
-
-slice-read-larger : tie.Need-slice-read-larger
-slice-read-larger c = search needs
-
-add-larger-2 : tie.Need-add-larger-2
-add-larger-2 c = search needs
 
 larger-requires : tie.Need-larger-requires
 larger-requires c κs = search needs
@@ -72,14 +73,8 @@ slice-write-states c = search needs
 shr-if1 : tie.Need-shr-if1
 shr-if1 c = search needs
 
-add-logged : tie.Need-add-logged
-add-logged c = search needs
-
-mul-logged : tie.Need-mul-logged
-mul-logged c = search needs
-
-slice-read-logged : tie.Need-slice-read-logged
-slice-read-logged c = simp length-set (omega arith)
+logged-set-requires : tie.Need-logged-set-requires
+logged-set-requires c κs = simp length-set (omega arith)
 
 cast-end : tie.Need-cast-end
 cast-end c = omega (arith, room c)
@@ -101,9 +96,10 @@ shl-states c = search needs
 
 sub-states : tie.Need-sub-states
 sub-states c =
-    let b = c .before .before .before .before .before .before in
-    let a = b .args in
-    omega (arith, bit-word (a .term .0) (b .pre .1 .0), has-le (a .term .0) (pendingSet (a .states .now) (a .at)) (is-pending c))
+    let e = c .before .before in
+    let s = start (e .before) in
+    let t = s .args .term .0 in
+    omega (arith, bit-word t (s .pre .1), pending-is (e .before), has-le t (pendingSet (s .args .states .now) (s .args .at)) (is-pending e))
 
 add-states-4 : tie.Need-add-states-4
 add-states-4 c = search needs
@@ -131,15 +127,14 @@ same-length c = search needs
 
 returns : tie.Need-returns
 returns c =
-    let b = c .before .before .before .before .before .before in
-    let a = b .args in
-    let l = a .states .now in
-    let t = a .term .0 in
-    let m = c .before .before .larger .result in
-    let bit = bit-word t (b .pre .1 .0) in
-    commit-pending l (a .at) t m (b .pre .0) (b .pre .1 .1) (c .before .before .larger .ensures) _ _ _ (b .pre .1 .0) (is-pending c) refl
-    (ap (λ (x : ℕ). pendingSet l (a .at) - x) bit)
-    (ap (bitOr (loggedSet (risen l (a .at) m) (a .at))) bit)
+    let e = c .before .before in
+    let s = start (e .before) in
+    let a = s .args in
+    let bit = bit-word (a .term .0) (s .pre .1) in
+    commit-pending (a .states .now) (a .at) (a .term .0) (e .before .larger .result) (s .pre .0) (s .pre .2) (last-is (e .before)) _ _ _ (s .pre .1) (is-pending e)
+    (ap ones (c .logged-set .ensures))
+    (ap₂ _-_ (pending-is (e .before)) bit)
+    (ap₂ bitOr (c .logged-set .ensures) bit)
 
 same-length-2 : tie.Need-same-length-2
 same-length-2 c = search needs
@@ -147,30 +142,26 @@ same-length-2 c = search needs
 returns-2 : tie.Need-returns-2
 unfolding has
 returns-2 c =
-    let b = c .before .before .before .before .before in
-    let a = b .args in
-    commit-absent (a .states .now) (a .at) (a .term .0) (c .before .larger .result) (b .pre .0) (b .pre .1 .1) (c .before .larger .ensures)
-    (ne-eqb (pendingSet (a .states .now) (a .at) / 2 ^ (a .term .0) % 2) 1 (c .if1 .left))
+    let e = c .before in
+    let s = start e in
+    let a = s .args in
+    let t = a .term .0 in
+    let out = ap (λ (x : ℕ). has x t) (sym (pending-is e)) ∙ ne-eqb (pending e / 2 ^ t % 2) 1 (c .if1 .left) in
+    commit-absent (a .states .now) (a .at) t (e .larger .result) (s .pre .0) (s .pre .2) (last-is e) out
 
 pub commit-term-spec : {M : Type 1} → statement M
 commit-term-spec =
     tie.close
     (tie.spec
-    add-pending
-    mul-pending
-    slice-read-pending
+    pending-set-requires
+    after-last-requires
     add-larger
-    mul-larger
-    slice-read-larger
-    add-larger-2
     larger-requires
     add-states
     mul-states
     slice-write-states
     shr-if1
-    add-logged
-    mul-logged
-    slice-read-logged
+    logged-set-requires
     cast-end
     add-states-2
     add-states-3

@@ -4,7 +4,7 @@
 use borrow.Author.Needs.{needs}
 use Prim.Native.Nat.{ℕ, suc, _+_, _-_, _^_, _≤_, _<_}
 use mathlib.Core.Bool.{true}
-use mathlib.Core.Path.{_≡_, refl, sym, ap, _∙_, subst}
+use mathlib.Core.Path.{_≡_, refl, sym, ap, ap₂, _∙_, subst}
 use native.Mathlib.Omega.{arith}
 use lib.Bits.{bitAnd, and-le-l}
 use lib.Count.{trailingZeros}
@@ -12,7 +12,7 @@ use lib.Dec.{leb}
 use Rattle.network.specs.Graph.{has}
 use Rattle.network.proofs.Sets.{has-below, setOf-lt}
 use Rattle.network.proofs.Lowest.{Walked, Next as Lower, walked-none, walked-next, walked-all, nonzero}
-use Rattle.protocol.specs.Paxos.{commitBelow}
+use Rattle.protocol.specs.Paxos.{commitBelow, commitTo, newlyTo}
 use Rattle.protocol.specs.View.{view, loggedSet, Next}
 use Rattle.protocol.proofs.Steps.{next-same, newlySet, newly-word, newly-is, turn-kept, turn-free, turn-new, turn-past}
 use Rattle.protocol.proofs.paxos.commit_up_to.Statement.{statement}
@@ -27,24 +27,24 @@ Inv-loop states₀ at reach newly rest₀ states rest =
 abbrev μ-loop : tie.MeasureT-loop
 μ-loop states₀ at reach newly rest₀ states rest = rest
 
+abbrev start-of : tie.At-loop Inv-loop μ-loop → tie.Start Inv-loop μ-loop
+start-of c = c .before .before .before .before .before
+
 -- the set of the terms that are newly committed
 abbrev newly : tie.At-loop Inv-loop μ-loop → ℕ
 newly c =
-    let a = c .before .before .before .before .args in
-    let r = c .before .before .up-to .result in
-    r - bitAnd r (loggedSet (a .states .now) (a .at))
+    let r = c .before .before .before .up-to .result in
+    r - bitAnd r (c .before .logged-set .result)
 
 newly-is-set : (c : tie.At-loop Inv-loop μ-loop) →
-    let a = c .before .before .before .before .args in
+    let a = start-of c .args in
     newly c ≡ newlySet (a .last .0) (loggedSet (a .states .now) (a .at))
-newly-is-set c =
-    let a = c .before .before .before .before .args in
-    ap (λ (x : ℕ). x - bitAnd x (loggedSet (a .states .now) (a .at))) (c .before .before .up-to .ensures)
+newly-is-set c = ap₂ (λ (x y : ℕ). x - bitAnd x y) (c .before .before .before .up-to .ensures) (c .before .logged-set .ensures)
 
 word : (c : tie.At-loop Inv-loop μ-loop) → newly c < 2 ^ 64
 word c =
-    let reach = setOf-lt 64 (λ (t : ℕ). leb t (c .before .before .before .before .args .last .0)) in
-    omega (arith, reach, c .before .before .up-to .ensures)
+    let reach = setOf-lt 64 (λ (t : ℕ). leb t (start-of c .args .last .0)) in
+    omega (arith, reach, c .before .before .before .up-to .ensures)
 
 -- the lowest term that is left
 abbrev term : tie.In-loop Inv-loop μ-loop → ℕ
@@ -56,22 +56,22 @@ next c =
 
 module _
     (c : tie.In-loop Inv-loop μ-loop) (u : ℕ) (h : u < 64)
-    (e : newly (c .before) ≡ newlySet u (loggedSet (c .before .before .before .before .before .args .states .now) (c .before .before .before .before .before .args .at))) where
+    (e : newly (c .before) ≡ newlySet u (loggedSet (start-of (c .before) .args .states .now) (start-of (c .before) .args .at))) where
   is-new :
-      let a = c .before .before .before .before .before .args in
+      let a = start-of (c .before) .args in
       has (newlySet u (loggedSet (a .states .now) (a .at))) (term c) ≡ true
   is-new = ap (λ (x : ℕ). has x (term c)) (sym e) ∙ next c .is
 
   at-most : term c ≤ u
   at-most =
-      let a = c .before .before .before .before .before .args in
+      let a = start-of (c .before) .args in
       omega (arith, has-below (newly-word u (loggedSet (a .states .now) (a .at)) h) (term c) is-new)
 
   so-far :
-      let a = c .before .before .before .before .before .args in
+      let a = start-of (c .before) .args in
       Next (λ k. u < k) (a .at) (a .states .now) (c .before .loop .states) (commitBelow (term c) (view (a .states .now) (a .at)))
   so-far =
-      let b = c .before .before .before .before .before in
+      let b = start-of (c .before) in
       let l = c .before .loop in
       turn-past (b .args .states .now) (l .states) (b .args .at) u (l .inv .0) (b .pre .0) h (l .inv .2 u h e .1) (term c) (next c .from) (omega (arith, at-most))
       (λ j g k. ap (λ (x : ℕ). has x j) (sym e) ∙ next c .none j g k)
@@ -79,14 +79,8 @@ module _
 up-to-requires : tie.Need-up-to-requires Inv-loop μ-loop
 up-to-requires c κs = search needs
 
-add-newly : tie.Need-add-newly Inv-loop μ-loop
-add-newly c = search needs
-
-mul-newly : tie.Need-mul-newly Inv-loop μ-loop
-mul-newly c = search needs
-
-slice-read-newly : tie.Need-slice-read-newly Inv-loop μ-loop
-slice-read-newly c = search needs
+logged-set-requires : tie.Need-logged-set-requires Inv-loop μ-loop
+logged-set-requires c κs = search needs
 
 sub-newly : tie.Need-sub-newly Inv-loop μ-loop
 sub-newly c = and-le-l _ _
@@ -101,13 +95,14 @@ cast-t c = omega (arith, next c .within)
 commit-term-requires : tie.Need-commit-term-requires Inv-loop μ-loop
 commit-term-requires c κs =
     let i = c .before in
-    let b = i .before .before .before .before .before in
+    let b = start-of (i .before) in
     let a = b .args in
     let u = a .last .0 in
     let e = newly-is-set (i .before) in
     let n = so-far i u (b .pre .1) e in (
       turn-kept (a .states .now) (i .before .loop .states) (a .at) u (term i) (b .pre .0) (b .pre .1) n,
-      (next i .within, turn-free (a .states .now) (i .before .loop .states) (a .at) u (term i) (b .pre .0) (b .pre .1) n (at-most i u (b .pre .1) e) (is-new i u (b .pre .1) e)),
+      next i .within,
+      turn-free (a .states .now) (i .before .loop .states) (a .at) u (term i) (b .pre .0) (b .pre .1) n (at-most i u (b .pre .1) e) (is-new i u (b .pre .1) e),
     )
 
 sub-rest : tie.Need-sub-rest Inv-loop μ-loop
@@ -119,7 +114,7 @@ loop-less c = next (c .before .before .before .before) .fewer
 loop-again : tie.Need-loop-again Inv-loop μ-loop
 loop-again c =
     let i = c .before .before .before .before in
-    let b = i .before .before .before .before .before in
+    let b = start-of (i .before) in
     let a = b .args in (
       term i + 1,
       next i .onward,
@@ -131,13 +126,14 @@ loop-again c =
 same-length : tie.Need-same-length Inv-loop μ-loop
 same-length c =
     let l = c .before in
-    let b = l .before .before .before .before in
+    let b = start-of l in
     l .loop .inv .2 (b .args .last .0) (b .pre .1) (newly-is-set l) .1 .wrote .size
 
 returns : tie.Need-returns Inv-loop μ-loop
+unfolding commitTo newlyTo
 returns c =
     let l = c .before in
-    let b = l .before .before .before .before in
+    let b = start-of l in
     let a = b .args in
     let u = a .last .0 in
     let e = newly-is-set l in
@@ -157,9 +153,7 @@ commit-up-to-spec =
     Inv-loop
     μ-loop
     up-to-requires
-    add-newly
-    mul-newly
-    slice-read-newly
+    logged-set-requires
     sub-newly
     loop-holds
     cast-t

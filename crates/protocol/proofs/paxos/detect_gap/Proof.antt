@@ -17,7 +17,9 @@ use lib.Pow.{shr-shr}
 use Rattle.network.specs.Graph.{has}
 use Rattle.network.proofs.Lowest.{Lowest, lowest, has-minus}
 use Rattle.phy.proofs.Masks.{has-zero}
-use Rattle.protocol.specs.Paxos.{held}
+use Rattle.config.specs.Limits.{maxTerms}
+use Rattle.protocol.specs.declared.paxos.Gap.{Gap}
+use Rattle.protocol.specs.Paxos.{held, after, detectGap}
 use Rattle.protocol.specs.View.{view, pendingSet, loggedSet, lastAt, Kept}
 use Rattle.protocol.proofs.Words.{has-reach, reach-all}
 use Rattle.protocol.proofs.Commit.{gap-none, gap-is}
@@ -40,118 +42,103 @@ has-free s t j h l =
     has-minus (2 ^ 64 - 1) s (t + j) ∙
     ap (λ (x : Bool). x && not (has s (t + j))) (in-word (t + j) l)
 
-module _ (b : List ℕ) (at : ℕ) (k : Kept 64 b at) where
-  abbrev all : ℕ
-  all = bitOr (pendingSet b at) (loggedSet b at)
-
+-- `all` is the set of what is held, and `last` the first term that is looked at
+module _
+    (b : List ℕ) (at all last : ℕ) (k : Kept maxTerms b at) (all-is : all ≡ bitOr (pendingSet b at) (loggedSet b at)) (last-is : last ≡ lastAt b at) where
   abbrev free : ℕ
-  free = (2 ^ 64 - 1 - all) / 2 ^ lastAt b at
+  free = (2 ^ 64 - 1 - all) / 2 ^ last
 
   -- the lowest that is not held
   abbrev gap : ℕ
-  gap = lastAt b at + trailingZeros 64 free
+  gap = last + trailingZeros 64 free
 
   all-word : all < 2 ^ 64
-  all-word = or-lt 64 (pendingSet b at) (loggedSet b at) (pending-word k) (logged-word k)
+  all-word = rw all-is (or-lt 64 (pendingSet b at) (loggedSet b at) (pending-word k) (logged-word k))
 
-  word : free < 2 ^ 64
-  word = lt-of-le-of-lt (div-le-self (2 ^ 64 - 1 - all) (2 ^ lastAt b at)) (omega arith)
+  held-all : (t : ℕ) → held t (view b at) ≡ has all t
+  held-all t = held-in k t ∙ ap (λ (x : ℕ). has x t) (sym all-is)
 
   low : (free ≡ 0 → ⊥) → Lowest 64 free (trailingZeros 64 free)
-  low = lowest 64 free word
+  low = lowest 64 free (lt-of-le-of-lt (div-le-self (2 ^ 64 - 1 - all) (2 ^ last)) (omega arith))
 
-  before-gap : (t : ℕ) → lastAt b at ≤ t → t < gap → t < 64 → held t (view b at) ≡ true
+  before-gap : (t : ℕ) → last ≤ t → t < gap → t < 64 → held t (view b at) ≡ true
   before-gap t from below h =
-      let e : lastAt b at + (t - lastAt b at) ≡ t = omega arith in
-      let none : has free (t - lastAt b at) ≡ false =
-      ⊎-elim (λ z. ap (λ (x : ℕ). has x (t - lastAt b at)) z ∙ has-zero (t - lastAt b at)) (λ p. low (λ z. omega arith) .below (t - lastAt b at) (omega arith)) (eq-zero-or-pos free) in
-      held-in k t ∙ not-false _ (ap (λ (x : ℕ). not (has all x)) (sym e) ∙ sym (has-free all (lastAt b at) (t - lastAt b at) all-word (omega arith)) ∙ none)
+      let e : last + (t - last) ≡ t = omega arith in
+      let none : has free (t - last) ≡ false =
+      ⊎-elim (λ z. ap (λ (x : ℕ). has x (t - last)) z ∙ has-zero (t - last)) (λ p. low (λ z. omega arith) .below (t - last) (omega arith)) (eq-zero-or-pos free) in
+      held-all t ∙ not-false _ (ap (λ (x : ℕ). not (has all x)) (sym e) ∙ sym (has-free all last (t - last) all-word (omega arith)) ∙ none)
 
   at-gap : gap < 64 → held gap (view b at) ≡ false
   at-gap h =
-      held-in k gap ∙
-      not-true _ (sym (has-free all (lastAt b at) (trailingZeros 64 free) all-word h) ∙ low (λ z. omega (arith, ap (trailingZeros 64) z, trailing-of-zero 64)) .is)
+      held-all gap ∙
+      not-true _ (sym (has-free all last (trailingZeros 64 free) all-word h) ∙ low (λ z. omega (arith, ap (trailingZeros 64) z, trailing-of-zero 64)) .is)
 
-add-last : tie.Need-add-last
-add-last c = search needs
+  from-last : after (view b at .last) ≡ last
+  from-last = after-last (lastAt b at) ∙ sym last-is
 
-mul-last : tie.Need-mul-last
-mul-last c = search needs
+  none-up-to : (end : ℕ) → end ≤ gap → end ≤ 64 → detectGap end (view b at) ≡ Gap.None
+  none-up-to end h few = gap-none end (view b at) (λ t g l. before-gap t (omega (arith, from-last)) (omega arith) (omega arith))
 
-shared-slice-read-last : tie.Need-shared-slice-read-last
-shared-slice-read-last c = search needs
+  one-below : (end : ℕ) → gap < end → end ≤ 64 → detectGap end (view b at) ≡ Gap.At (record { 0 = gap })
+  one-below end h few =
+      gap-is end gap (view b at) (omega (arith, from-last)) h (at-gap (omega arith))
+      (λ t g l. before-gap t (omega (arith, from-last)) l (omega arith))
+
+after-last-requires : tie.Need-after-last-requires
+after-last-requires c κs = search needs
 
 returns : tie.Need-returns
 returns c =
-    let a = c .before .before .args in
-    let start = after-last (lastAt (a .states .now) (a .at)) in
-    sym (gap-none (a .up-to-term .0) (view (a .states .now) (a .at)) (λ t g h. absurd (omega arith)))
+    let last = c .before .after-last in
+    let a = c .before .before .before .args in
+    let from = after-last (lastAt (a .states .now) (a .at)) in
+    sym (gap-none (a .up-to-term .0) (view (a .states .now) (a .at)) (λ t g h. absurd (omega (arith, last .ensures, c .if1 .taken))))
 
-add-free : tie.Need-add-free
-add-free c = search needs
-
-mul-free : tie.Need-mul-free
-mul-free c = search needs
-
-shared-slice-read-free : tie.Need-shared-slice-read-free
-shared-slice-read-free c = search needs
-
-add-free-2 : tie.Need-add-free-2
-add-free-2 c = search needs
-
-mul-free-2 : tie.Need-mul-free-2
-mul-free-2 c = search needs
-
-shared-slice-read-free-2 : tie.Need-shared-slice-read-free-2
-shared-slice-read-free-2 c = search needs
+held-set-requires : tie.Need-held-set-requires
+held-set-requires c κs = search needs
 
 shr-free : tie.Need-shr-free
-shr-free c = search needs
+shr-free c = omega (arith, c .before .before .after-last .ensures, c .before .before .before .before .pre .0 .last-below)
+
+module _ (c : tie.After-held-set) where
+  abbrev start : tie.Start
+  start = c .before .before .before .before
+
+  abbrev all-here : ℕ
+  all-here = c .held-set .result
+
+  abbrev last-here : ℕ
+  last-here = c .before .before .after-last .result
 
 cast-t : tie.Need-cast-t
-cast-t c =
-    let b = c .before .before .before .before in
-    omega (arith, trailing-le 64 (free (b .args .states .now) (b .args .at) (b .pre .0)))
+cast-t c = omega (arith, trailing-le 64 ((2 ^ 64 - 1 - all-here c) / 2 ^ last-here c))
 
 add-t : tie.Need-add-t
 add-t c =
-    let b = c .before .before .before .before in
-    omega (arith, trailing-le 64 (free (b .args .states .now) (b .args .at) (b .pre .0)))
+    let s = start c in
+    omega (arith, trailing-le 64 ((2 ^ 64 - 1 - all-here c) / 2 ^ last-here c), c .before .before .after-last .ensures, s .pre .0 .last-below)
 
 returns-2 : tie.Need-returns-2
 returns-2 c =
-    let b = c .before .before .before .before .before in
-    let a = b .args in
-    let start = after-last (lastAt (a .states .now) (a .at)) in
-    sym
-    (gap-none (a .up-to-term .0) (view (a .states .now) (a .at))
-    (λ t g h. before-gap (a .states .now) (a .at) (b .pre .0) t (omega arith) (omega arith) (omega (arith, b .pre .1))))
+    let h = c .before in
+    let s = start h in
+    let a = s .args in
+    sym (none-up-to (a .states .now) (a .at) (all-here h) (last-here h) (s .pre .0) (h .held-set .ensures) (h .before .before .after-last .ensures) (a .up-to-term .0) (c .if2 .taken) (s .pre .1))
 
 returns-3 : tie.Need-returns-3
 returns-3 c =
-    let b = c .before .before .before .before .before in
-    let a = b .args in
-    let start = after-last (lastAt (a .states .now) (a .at)) in
-    let few : gap (a .states .now) (a .at) (b .pre .0) < 64 = omega (arith, b .pre .1) in
-    sym
-    (gap-is (a .up-to-term .0) (gap (a .states .now) (a .at) (b .pre .0)) (view (a .states .now) (a .at)) (omega arith) (omega arith)
-    (at-gap (a .states .now) (a .at) (b .pre .0) few)
-    (λ t g h. before-gap (a .states .now) (a .at) (b .pre .0) t (omega arith) h (omega arith)))
+    let h = c .before in
+    let s = start h in
+    let a = s .args in
+    sym (one-below (a .states .now) (a .at) (all-here h) (last-here h) (s .pre .0) (h .held-set .ensures) (h .before .before .after-last .ensures) (a .up-to-term .0) (c .if2 .left) (s .pre .1))
 
 pub detect-gap-spec : {M : Type 1} → statement M
 detect-gap-spec =
     tie.close
     (tie.spec
-    add-last
-    mul-last
-    shared-slice-read-last
+    after-last-requires
     returns
-    add-free
-    mul-free
-    shared-slice-read-free
-    add-free-2
-    mul-free-2
-    shared-slice-read-free-2
+    held-set-requires
     shr-free
     cast-t
     add-t

@@ -1,10 +1,10 @@
 -- `protocol::paxos::greatest_quorum` meets its contract. The invariant: no term from t on has a quorum.
 -- Assumes nothing.
 use borrow.Author.Needs.{needs}
-use Prim.Native.Nat.{ℕ, _-_, _≤_}
+use Prim.Native.Nat.{ℕ, _-_, _^_, _≤_, _<_}
 use mathlib.Core.Bool.{Bool, true, false, cond, _&&_}
 use mathlib.Core.List.{List}
-use mathlib.Core.Option.{none, some}
+use mathlib.Core.Option.{Option, none, some}
 use mathlib.Core.Path.{_≡_, refl, sym, ap, _∙_, subst}
 use mathlib.Core.Logic.{⊎-elim}
 use native.Mathlib.Nat.{eq-or-lt-of-le}
@@ -12,15 +12,15 @@ use native.Mathlib.Omega.{arith}
 use borrow.Author.Tests.{leb-true, leb-false, lt-leb}
 use lib.Count.{trailingZeros, leadingZeros}
 use lib.Dec.{leb}
+use Rattle.config.specs.Limits.{maxTerms}
 use Rattle.network.specs.Graph.{has}
 use Rattle.network.proofs.Sets.{has-out, one-shl}
 use Rattle.network.proofs.Lowest.{Lowest, Highest, lowest, highest}
 use Rattle.phy.proofs.Masks.{has-zero}
-use Rattle.protocol.specs.Paxos.{size, majority, quorum}
+use Rattle.protocol.specs.Paxos.{Pending, size, majority, quorum}
 use Rattle.protocol.specs.View.{view, pendingSet, pendingOf, votesAt, dataAt}
 use Rattle.protocol.proofs.Commit.{greatest-none, greatest-is}
 use Rattle.protocol.proofs.Frame.{pending-word}
-use Rattle.protocol.proofs.Kept.{pending-none}
 use Rattle.protocol.proofs.Places.{either}
 use Rattle.protocol.proofs.Sets.{size-vote}
 use Rattle.protocol.proofs.paxos.greatest_quorum.Statement.{statement}
@@ -41,35 +41,45 @@ Inv-loop states at n pending own first t₀ t = (t ≤ 64) × ((u : ℕ) → t �
 abbrev μ-loop : tie.MeasureT-loop
 μ-loop states at n pending own first t₀ t = t
 
-module _ (c : tie.Else1 Inv-loop μ-loop) where
-  abbrev pending : ℕ
-  pending = pendingSet (c .before .before .before .args .states .now) (c .before .before .before .args .at)
+module _ (c : tie.After-pending-set Inv-loop μ-loop) where
+  abbrev start : tie.Start Inv-loop μ-loop
+  start = c .before .before
 
-  low : Lowest 64 pending (trailingZeros 64 pending)
-  low = lowest 64 pending (pending-word (c .before .before .before .pre .0)) (c .if1 .left)
+  abbrev at-term : ℕ → Option Pending
+  at-term = pendingOf (start .args .states .now) (start .args .at)
 
-  top : Highest 64 pending (leadingZeros 64 pending)
-  top = highest 64 pending (pending-word (c .before .before .before .pre .0)) (c .if1 .left)
+  -- a quorum is a majority of the votes of a pending term
+  judged-here : (t : ℕ) →
+      let a = start .args in
+      quorum (a .n) (at-term t) ≡ (has (c .pending-set .result) t && leb (majority (a .n)) (size (votesAt (a .states .now) (a .at) t)))
+  judged-here t =
+      let a = start .args in
+      judged (a .states .now) (a .at) (a .n) t ∙
+      ap (λ (x : ℕ). has x t && leb (majority (a .n)) (size (votesAt (a .states .now) (a .at) t))) (sym (c .pending-set .ensures))
 
-  -- a term that is not pending has no quorum
-  no-quorum : (u : ℕ) → has pending u ≡ false → let a = c .before .before .before .args in quorum (a .n) (pendingOf (a .states .now) (a .at) u) ≡ false
-  no-quorum u e = let a = c .before .before .before .args in ap (quorum (a .n)) (pending-none (a .states .now) (a .at) u e)
+  -- a term that is not pending has none
+  no-quorum : (t : ℕ) → has (c .pending-set .result) t ≡ false → quorum (start .args .n) (at-term t) ≡ false
+  no-quorum t e =
+      judged-here t ∙ ap (λ (x : Bool). x && leb (majority (start .args .n)) (size (votesAt (start .args .states .now) (start .args .at) t))) e
 
-add-pending : tie.Need-add-pending Inv-loop μ-loop
-add-pending c = search needs
+  word : c .pending-set .result < 2 ^ 64
+  word = omega (arith, c .pending-set .ensures, pending-word (start .pre .0))
 
-mul-pending : tie.Need-mul-pending Inv-loop μ-loop
-mul-pending c = search needs
+low : (c : tie.Else1 Inv-loop μ-loop) → let s = c .before .pending-set .result in Lowest 64 s (trailingZeros 64 s)
+low c = lowest 64 (c .before .pending-set .result) (word (c .before)) (c .if1 .left)
 
-shared-slice-read-pending : tie.Need-shared-slice-read-pending Inv-loop μ-loop
-shared-slice-read-pending c = search needs
+top : (c : tie.Else1 Inv-loop μ-loop) → let s = c .before .pending-set .result in Highest 64 s (leadingZeros 64 s)
+top c = highest 64 (c .before .pending-set .result) (word (c .before)) (c .if1 .left)
+
+pending-set-requires : tie.Need-pending-set-requires Inv-loop μ-loop
+pending-set-requires c κs = search needs
 
 returns : tie.Need-returns Inv-loop μ-loop
 returns c =
-    let a = c .before .before .before .args in
+    let a = start (c .before) .args in
     sym
-    (greatest-none 64 (a .n) (view (a .states .now) (a .at))
-    (λ t h. ap (quorum (a .n)) (pending-none (a .states .now) (a .at) t (ap (λ (x : ℕ). has x t) (c .if1 .taken) ∙ has-zero t))))
+    (greatest-none maxTerms (a .n) (view (a .states .now) (a .at))
+    (λ t h. no-quorum (c .before) t (ap (λ (x : ℕ). has x t) (c .if1 .taken) ∙ has-zero t)))
 
 shl-own : tie.Need-shl-own Inv-loop μ-loop
 shl-own c = search needs
@@ -84,7 +94,7 @@ sub-t : tie.Need-sub-t Inv-loop μ-loop
 sub-t c = omega (arith, top c .within)
 
 loop-holds : tie.Need-loop-holds Inv-loop μ-loop
-loop-holds c = (omega arith, λ u h. no-quorum c u (has-out (top c .above) u h))
+loop-holds c = (omega arith, λ u h. no-quorum (c .before) u (has-out (top c .above) u h))
 
 sub-t-2 : tie.Need-sub-t-2 Inv-loop μ-loop
 sub-t-2 c = omega arith
@@ -100,18 +110,19 @@ shared-slice-read-is-quorum c = omega arith
 
 is-quorum-requires : tie.Need-is-quorum-requires Inv-loop μ-loop
 is-quorum-requires c κs =
-    let s = c .before .before .before .before .before .before in
+    let s = start (c .before .before .before .before) in
     let node = s .args .node .0 in
     let one = ap size (one-shl 64 node (s .pre .1)) ∙ size-vote node (s .pre .1) in
     (omega arith, lt-leb (majority (s .args .n)) _ (omega (arith, one, s .pre .2)))
 
 returns-2 : tie.Need-returns-2 Inv-loop μ-loop
 returns-2 c =
-    let l = c .before .before .before .before .loop in
-    let a = c .before .before .before .before .before .before .before .before .args in
+    let i = c .before .before .before .before in
+    let l = i .loop in
+    let a = start (i .before .before) .args in
     sym
-    (greatest-is 64 (a .n) (l .t - 1) (view (a .states .now) (a .at)) (omega arith)
-    (judged (a .states .now) (a .at) (a .n) (l .t - 1) ∙ sym (c .before .is-quorum .ensures) ∙ c .if2 .taken)
+    (greatest-is maxTerms (a .n) (l .t - 1) (view (a .states .now) (a .at)) (omega arith)
+    (judged-here (i .before .before) (l .t - 1) ∙ sym (c .before .is-quorum .ensures) ∙ c .if2 .taken)
     (λ u g h. l .inv .1 u (omega arith)))
 
 loop-less : tie.Need-loop-less Inv-loop μ-loop
@@ -119,13 +130,14 @@ loop-less c = omega arith
 
 loop-again : tie.Need-loop-again Inv-loop μ-loop
 loop-again c =
-    let l = c .before .before .before .before .loop in
-    let a = c .before .before .before .before .before .before .before .before .args in (
+    let i = c .before .before .before .before in
+    let l = i .loop in
+    let p = i .before .before in (
       omega arith,
       λ u h.
           ⊎-elim
-          (λ e. subst (λ (v : ℕ). quorum (a .n) (pendingOf (a .states .now) (a .at) v) ≡ false) e
-          (judged (a .states .now) (a .at) (a .n) (l .t - 1) ∙ sym (c .before .is-quorum .ensures) ∙ c .if2 .left))
+          (λ e. subst (λ (v : ℕ). quorum (start p .args .n) (at-term p v) ≡ false) e
+          (judged-here p (l .t - 1) ∙ sym (c .before .is-quorum .ensures) ∙ c .if2 .left))
           (λ g. l .inv .1 u (omega (arith, g))) (eq-or-lt-of-le h),
     )
 
@@ -133,10 +145,10 @@ returns-3 : tie.Need-returns-3 Inv-loop μ-loop
 returns-3 c =
     let l = c .before .loop in
     let e = c .before .before in
-    let a = e .before .before .before .args in
+    let a = start (e .before) .args in
     sym
-    (greatest-none 64 (a .n) (view (a .states .now) (a .at))
-    (λ t h. ⊎-elim (λ g. l .inv .1 t (leb-true (l .t) t g)) (λ g. no-quorum e t (low e .below t (omega (arith, leb-false (l .t) t g)))) (either (leb (l .t) t))))
+    (greatest-none maxTerms (a .n) (view (a .states .now) (a .at))
+    (λ t h. ⊎-elim (λ g. l .inv .1 t (leb-true (l .t) t g)) (λ g. no-quorum (e .before) t (low e .below t (omega (arith, leb-false (l .t) t g)))) (either (leb (l .t) t))))
 
 pub greatest-quorum-spec : {M : Type 1} → statement M
 greatest-quorum-spec =
@@ -144,9 +156,7 @@ greatest-quorum-spec =
     (tie.spec
     Inv-loop
     μ-loop
-    add-pending
-    mul-pending
-    shared-slice-read-pending
+    pending-set-requires
     returns
     shl-own
     cast-first

@@ -1,12 +1,13 @@
 -- `protocol::paxos::hold` meets its contract, as `proofs/Steps.antt` has it.
 -- Assumes nothing.
 use borrow.Author.Needs.{needs}
-use Prim.Native.Nat.{_+_, _<_}
+use Prim.Native.Nat.{_+_}
 use mathlib.Core.Path.{ap, ap₂, _∙_}
 use native.Mathlib.Omega.{arith}
 use lib.Bits.{bitOr}
 use lib.ListN.{set, length-set}
 use lib.Seq.{getD-set-other}
+use Rattle.protocol.specs.Layout.{dataPlace, pendingPlace}
 use Rattle.protocol.specs.View.{dataOf}
 use Rattle.protocol.proofs.Sets.{bit-word}
 use Rattle.protocol.proofs.Steps.{data-code, hold-next}
@@ -37,23 +38,17 @@ mul-states-2 c = search needs
 slice-write-states-2 : tie.Need-slice-write-states-2
 slice-write-states-2 c = simp length-set (omega arith)
 
-add-states-4 : tie.Need-add-states-4
-add-states-4 c = search needs
-
-mul-states-3 : tie.Need-mul-states-3
-mul-states-3 c = search needs
-
-slice-read-states : tie.Need-slice-read-states
-slice-read-states c = simp length-set (omega arith)
+pending-set-requires : tie.Need-pending-set-requires
+pending-set-requires c κs = simp length-set (omega arith)
 
 shl-states : tie.Need-shl-states
 shl-states c = search needs
 
-add-states-5 : tie.Need-add-states-5
-add-states-5 c = search needs
+add-states-4 : tie.Need-add-states-4
+add-states-4 c = omega arith
 
-mul-states-4 : tie.Need-mul-states-4
-mul-states-4 c = search needs
+mul-states-3 : tie.Need-mul-states-3
+mul-states-3 c = omega arith
 
 slice-write-states-3 : tie.Need-slice-write-states-3
 slice-write-states-3 c = simp length-set (omega arith)
@@ -63,20 +58,21 @@ same-length c = search needs
 
 returns : tie.Need-returns
 returns c =
-    let b = c .before .before .before in
+    let coded = c .before .before .code-of in
+    let b = c .before .before .before .before in
     let a = b .args in
     let l = a .states .now in
     let t = a .term .0 in
-    let v = a .votes in
-    let m = c .before .code-of .result in
-    let lt : t < 64 = b .pre .1 .0 in
-    hold-next l (a .at) t v m _ (a .d) (b .pre .0) lt
-    (ap dataOf (c .before .code-of .ensures) ∙ data-code (a .d) (b .pre .1 .1 .0))
-    (b .pre .1 .1 .1)
+    let pre = b .pre in
+    let bit = bit-word t (pre .term) in
+    hold-next l (a .at) t (a .votes) (coded .result) _ (a .d) (pre .kept) (pre .term)
+    (ap dataOf (coded .ensures) ∙ data-code (a .d) (pre .payload))
+    (pre .free)
     (ap₂ bitOr
-    (getD-set-other (set l (a .at + t) v) (a .at + 64 + t) (a .at + 192) m 0 (λ q. omega arith) ∙
-    getD-set-other l (a .at + t) (a .at + 192) v 0 (λ q. omega arith))
-    (bit-word t lt))
+    (c .pending-set .ensures ∙
+    getD-set-other (set l (a .at + t) (a .votes)) (a .at + dataPlace + t) (a .at + pendingPlace) (coded .result) 0 (λ q. omega arith) ∙
+    getD-set-other l (a .at + t) (a .at + pendingPlace) (a .votes) 0 (λ q. omega arith))
+    bit)
 
 pub hold-spec : {M : Type 1} → statement M
 hold-spec =
@@ -90,12 +86,10 @@ hold-spec =
     add-states-3
     mul-states-2
     slice-write-states-2
+    pending-set-requires
+    shl-states
     add-states-4
     mul-states-3
-    slice-read-states
-    shl-states
-    add-states-5
-    mul-states-4
     slice-write-states-3
     same-length
     returns)

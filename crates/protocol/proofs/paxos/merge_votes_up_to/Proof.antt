@@ -2,14 +2,17 @@
 -- Assumes nothing.
 use borrow.Author.Needs.{needs}
 use Prim.Native.Nat.{ℕ, _+_, _-_, _^_, _≤_, _<_}
-use mathlib.Core.Path.{_≡_, ap, _∙_, subst}
+use mathlib.Core.Path.{_≡_, ap, ap₂, _∙_, subst}
 use native.Mathlib.Omega.{arith}
 use lib.Bits.{bitAnd, and-le-l}
 use lib.Count.{trailingZeros, leadingZeros}
 use lib.ListN.{length}
-use Rattle.network.specs.Graph.{has}
+use lib.Dec.{leb}
+use Rattle.config.specs.Limits.{maxTerms}
+use Rattle.network.specs.Graph.{has, setOf}
 use Rattle.network.proofs.Sets.{has-below}
 use Rattle.network.proofs.Lowest.{Lowest, Highest, lowest, highest}
+use Rattle.protocol.specs.Layout.{nodeSize}
 use Rattle.protocol.specs.View.{pendingSet}
 use Rattle.protocol.proofs.Frame.{pending-word}
 use Rattle.protocol.proofs.Merges.{Merged, merged-none, merged-more, merge-next}
@@ -23,45 +26,46 @@ Inv-loop states₀ at bitmap reach rest first end t₀ states t =
 abbrev μ-loop : tie.MeasureT-loop
 μ-loop states₀ at bitmap reach rest first end t₀ states t = end - t
 
+abbrev start-of : tie.After-pending-set Inv-loop μ-loop → tie.Start Inv-loop μ-loop
+start-of c = c .before .before .before .before
+
 -- the set of the terms that get votes
-abbrev reached : tie.Else1 Inv-loop μ-loop → ℕ
-reached c =
-    let a = c .before .before .before .before .args in
-    bitAnd (pendingSet (a .states .now) (a .at)) (c .before .before .up-to .result)
+abbrev reached : tie.After-pending-set Inv-loop μ-loop → ℕ
+reached c = bitAnd (c .pending-set .result) (c .before .before .up-to .result)
 
-word : (c : tie.Else1 Inv-loop μ-loop) → reached c < 2 ^ 64
+reached-is : (c : tie.After-pending-set Inv-loop μ-loop) →
+    let a = start-of c .args in
+    reached c ≡ bitAnd (pendingSet (a .states .now) (a .at)) (setOf maxTerms (λ (t : ℕ). leb t (a .up-to-term .0)))
+reached-is c = ap₂ bitAnd (c .pending-set .ensures) (c .before .before .up-to .ensures)
+
+word : (c : tie.After-pending-set Inv-loop μ-loop) → reached c < 2 ^ 64
 word c =
-    let b = c .before .before .before .before in
-    omega (arith, and-le-l (pendingSet (b .args .states .now) (b .args .at)) (c .before .before .up-to .result), pending-word (b .pre))
+    omega (arith, and-le-l (c .pending-set .result) (c .before .before .up-to .result), c .pending-set .ensures, pending-word (start-of c .pre))
 
-low : (c : tie.Else1 Inv-loop μ-loop) → Lowest 64 (reached c) (trailingZeros 64 (reached c))
-low c = lowest 64 (reached c) (word c) (c .if1 .left)
+low : (c : tie.Else1 Inv-loop μ-loop) → Lowest 64 (reached (c .before)) (trailingZeros 64 (reached (c .before)))
+low c = lowest 64 (reached (c .before)) (word (c .before)) (c .if1 .left)
 
-top : (c : tie.Else1 Inv-loop μ-loop) → Highest 64 (reached c) (leadingZeros 64 (reached c))
-top c = highest 64 (reached c) (word c) (c .if1 .left)
+top : (c : tie.Else1 Inv-loop μ-loop) → Highest 64 (reached (c .before)) (leadingZeros 64 (reached (c .before)))
+top c = highest 64 (reached (c .before)) (word (c .before)) (c .if1 .left)
 
-fits : (c : tie.In-loop Inv-loop μ-loop) → c .before .before .before .before .before .before .args .at + 195 ≤ length (c .before .loop .states)
-fits c = omega (arith, c .before .loop .inv .3 .size, c .before .before .before .before .before .before .pre .fits)
+fits : (c : tie.In-loop Inv-loop μ-loop) → start-of (c .before .before .before) .args .at + nodeSize ≤ length (c .before .loop .states)
+fits c = omega (arith, c .before .loop .inv .3 .size, start-of (c .before .before .before) .pre .fits)
 
 up-to-requires : tie.Need-up-to-requires Inv-loop μ-loop
 up-to-requires c κs = search needs
 
-add-rest : tie.Need-add-rest Inv-loop μ-loop
-add-rest c = search needs
+pending-set-requires : tie.Need-pending-set-requires Inv-loop μ-loop
+pending-set-requires c κs = search needs
 
-mul-rest : tie.Need-mul-rest Inv-loop μ-loop
-mul-rest c = search needs
-
-slice-read-rest : tie.Need-slice-read-rest Inv-loop μ-loop
-slice-read-rest c = search needs
+same-length : tie.Need-same-length Inv-loop μ-loop
+same-length c = search needs
 
 returns : tie.Need-returns Inv-loop μ-loop
 returns c =
-    let b = c .before .before .before .before in
+    let b = start-of (c .before) in
     let a = b .args in
     merge-next (a .at) (a .states .now) (a .bitmap) 0 0 (a .states .now) (merged-none (a .at) (a .states .now) (a .bitmap) 0) (a .up-to-term .0)
-    (bitAnd (pendingSet (a .states .now) (a .at)) (c .before .before .up-to .result)) (b .pre) (omega arith)
-    (ap (bitAnd (pendingSet (a .states .now) (a .at))) (c .before .before .up-to .ensures))
+    (reached (c .before)) (b .pre) (omega arith) (reached-is (c .before))
     (λ j h. absurd (omega arith)) (omega (arith, c .if1 .taken)) (λ h. absurd (omega arith))
 
 cast-first : tie.Need-cast-first Inv-loop μ-loop
@@ -106,28 +110,29 @@ loop-less c = omega arith
 loop-again : tie.Need-loop-again Inv-loop μ-loop
 loop-again c =
     let l = c .before .before .before .loop in
-    let a = c .before .before .before .before .before .before .before .before .args in
-    let f = c .before .before .before .before .before .before .before .before .pre .fits in (
+    let b = start-of (c .before .before .before .before .before) in
+    let a = b .args in
+    let f = b .pre .fits in (
       omega arith,
       omega arith,
       l .inv .2,
       merged-more (a .at) (a .states .now) (a .bitmap) _ (l .t) (l .states) (l .inv .3) _ (l .inv .0) (omega arith) (c .joined .ensures),
     )
 
-same-length : tie.Need-same-length Inv-loop μ-loop
-same-length c = c .before .loop .inv .3 .size
+same-length-2 : tie.Need-same-length-2 Inv-loop μ-loop
+same-length-2 c = c .before .loop .inv .3 .size
 
 returns-2 : tie.Need-returns-2 Inv-loop μ-loop
 returns-2 c =
     let l = c .before .loop in
     let e = c .before .before in
-    let b = e .before .before .before .before in
+    let b = start-of (e .before) in
     let a = b .args in
-    let done : 64 - leadingZeros 64 (reached e) ≡ l .t = omega arith in
-    let last : l .t - 1 ≡ 63 - leadingZeros 64 (reached e) = omega (arith, done) in
-    merge-next (a .at) (a .states .now) (a .bitmap) _ (l .t) (l .states) (l .inv .3) (a .up-to-term .0) (reached e) (b .pre) (omega arith)
-    (ap (bitAnd (pendingSet (a .states .now) (a .at))) (e .before .before .up-to .ensures))
-    (low e .below) (subst (λ (x : ℕ). reached e < 2 ^ x) done (top e .above)) (λ h. ap (has (reached e)) last ∙ top e .is)
+    let s = reached (e .before) in
+    let done : 64 - leadingZeros 64 s ≡ l .t = omega arith in
+    let last : l .t - 1 ≡ 63 - leadingZeros 64 s = omega (arith, done) in
+    merge-next (a .at) (a .states .now) (a .bitmap) _ (l .t) (l .states) (l .inv .3) (a .up-to-term .0) s (b .pre) (omega arith) (reached-is (e .before))
+    (low e .below) (subst (λ (x : ℕ). s < 2 ^ x) done (top e .above)) (λ h. ap (has s) last ∙ top e .is)
 
 pub merge-votes-up-to-spec : {M : Type 1} → statement M
 merge-votes-up-to-spec =
@@ -136,9 +141,8 @@ merge-votes-up-to-spec =
     Inv-loop
     μ-loop
     up-to-requires
-    add-rest
-    mul-rest
-    slice-read-rest
+    pending-set-requires
+    same-length
     returns
     cast-first
     cast-end
@@ -154,5 +158,5 @@ merge-votes-up-to-spec =
     add-t
     loop-less
     loop-again
-    same-length
+    same-length-2
     returns-2)

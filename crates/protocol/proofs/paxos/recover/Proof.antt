@@ -1,68 +1,71 @@
 -- `protocol::paxos::recover` meets its contract, by cases.
 -- Assumes nothing.
 use borrow.Author.Needs.{needs}
-use mathlib.Core.Path.{sym, _∙_}
+use mathlib.Core.Bool.{Bool, cond}
+use mathlib.Core.Path.{_≡_, sym, ap, _∙_}
 use borrow.Author.Tests.{not-true, not-false}
-use native.Mathlib.Omega.{arith}
-use Rattle.protocol.specs.Paxos.{recovery}
+use Rattle.network.specs.declared.units.Term.{Term}
+use Rattle.phy.specs.declared.packet.Piggyback.{Piggyback}
+use Rattle.protocol.specs.Paxos.{State, held, recovery}
+use Rattle.protocol.specs.View.{view, dataAt}
 use Rattle.protocol.proofs.Steps.{recovery-view, held-free}
 use Rattle.protocol.proofs.paxos.recover.Statement.{statement}
 use Rattle.protocol.proofs.paxos.recover.Tie as tie
 
+module _ (c : tie.After-known-told) where
+  abbrev start : tie.Start
+  start = c .before .before .before .before
+
+  -- the term of the NACK
+  abbrev term : Term
+  term = c .before .nack .given .0 .0
+
+  abbrev state : State
+  state = view (start .args .states .now) (start .args .at)
+
+  answer : {b : Bool} → held (term .0) state ≡ b →
+      recovery (start .args .nack) state ≡ cond b (Piggyback.Of term (dataAt (start .args .states .now) (start .args .at) (term .0))) Piggyback.None
+  answer e =
+      ap (λ n. recovery n state) (c .before .nack .given .1) ∙
+      recovery-view (start .args .states .now) (start .args .at) term ∙
+      ap (λ (x : Bool). cond x (Piggyback.Of term (dataAt (start .args .states .now) (start .args .at) (term .0))) Piggyback.None) e
+
+enum-known-nack : tie.Need-enum-known-nack
+enum-known-nack c = search needs
+
+enum-told : tie.Need-enum-told
+enum-told c = search needs
+
 returns : tie.Need-returns
 unfolding recovery
-returns c =
-    rw (c .if1 .taken)
+returns c = rw (c .enum-told .given .1)
 
 returns-2 : tie.Need-returns-2
-returns-2 c =
-    let b = c .before .before .before .before .before in
-    let t = b .args .nack-term .0 in
-    sym (rw (held-free t (b .pre) (c .if2 .taken)) at (recovery-view t (b .pre) (λ q. omega arith)))
+returns-2 c = sym (answer (c .before) (held-free (term (c .before) .0) (start (c .before) .pre) (c .if1 .taken)))
 
 is-held-requires : tie.Need-is-held-requires
 is-held-requires c κs = search needs
 
 returns-3 : tie.Need-returns-3
-returns-3 c =
-    let b = c .before .before .before .before .before .before .before in
-    let t = b .args .nack-term .0 in
-    sym (rw (sym (c .before .is-held .ensures) ∙ not-true _ (c .if3 .taken)) at (recovery-view t (b .pre) (λ q. omega arith)))
+returns-3 c = sym (answer (c .before .before .before) (sym (c .before .is-held .ensures) ∙ not-true _ (c .if2 .taken)))
 
-add-data-of : tie.Need-add-data-of
-add-data-of c = search needs
-
-add-data-of-2 : tie.Need-add-data-of-2
-add-data-of-2 c = search needs
-
-mul-data-of : tie.Need-mul-data-of
-mul-data-of c = search needs
-
-shared-slice-read-data-of : tie.Need-shared-slice-read-data-of
-shared-slice-read-data-of c = search needs
-
-data-of-requires : tie.Need-data-of-requires
-data-of-requires c κs = search needs
+data-at-requires : tie.Need-data-at-requires
+data-at-requires c κs = search needs
 
 returns-4 : tie.Need-returns-4
 returns-4 c =
-    let b = c .before .before .before .before .before .before .before .before .before in
-    let t = b .args .nack-term .0 in
-    let e = c .before .before .before .is-held .ensures in
-    rw (c .data-of .ensures)
-    (sym (rw (sym e ∙ not-false _ (c .before .before .if3 .left)) at (recovery-view t (b .pre) (λ q. omega arith))))
+    let l = c .before in
+    rw (c .data-at .ensures) (sym (answer (l .before .before .before) (sym (l .before .is-held .ensures) ∙ not-false _ (l .if2 .left))))
 
 pub recover-spec : {M : Type 1} → statement M
 recover-spec =
     tie.close
     (tie.spec
+    enum-known-nack
+    enum-told
     returns
     returns-2
     is-held-requires
     returns-3
-    add-data-of
-    add-data-of-2
-    mul-data-of
-    shared-slice-read-data-of
-    data-of-requires
+    data-at-requires
     returns-4)

@@ -18,17 +18,8 @@ commit-to-requires c κs =
     let s = c .before .before .before .before in
     (s .pre .0, rw (c .greatest-quorum .ensures) (quorum-below 64 (s .args .n) (s .pre .0)))
 
-add-last-of : tie.Need-add-last-of
-add-last-of c = search needs
-
-mul-last-of : tie.Need-mul-last-of
-mul-last-of c = search needs
-
-slice-read-last-of : tie.Need-slice-read-last-of
-slice-read-last-of c = search needs
-
-last-of-requires : tie.Need-last-of-requires
-last-of-requires c κs = search needs
+last-accepted-requires : tie.Need-last-accepted-requires
+last-accepted-requires c κs = search needs
 
 votes-of-requires : tie.Need-votes-of-requires
 votes-of-requires c κs =
@@ -57,8 +48,8 @@ returns c =
     let n = d .commit-to .ensures .next in
     let is : view (d .commit-to .last .0) (a .at) ≡ commitTo (accepted (a .n) x) x =
     n .is ∙ ap (λ (l : LastAccepted). commitTo l x) e in
-    let last : c .before .before .before .before .last-of .result ≡ commitTo (accepted (a .n) x) x .last =
-    c .before .before .before .before .last-of .ensures ∙ ap (λ (y : State). y .last) is in
+    let last : c .before .before .before .before .last-accepted .result ≡ commitTo (accepted (a .n) x) x .last =
+    c .before .before .before .before .last-accepted .ensures ∙ ap (λ (y : State). y .last) is in
     let flags : c .joined .result ≡ union (votesOf (commitTo (accepted (a .n) x) x .pending (a .current .0))) (vote (a .node .0)) =
     c .joined .ensures ∙
     ap₂ union
@@ -85,10 +76,7 @@ announce-spec =
     (tie.spec
     greatest-quorum-requires
     commit-to-requires
-    add-last-of
-    mul-last-of
-    slice-read-last-of
-    last-of-requires
+    last-accepted-requires
     votes-of-requires
     vote-of-requires
     joined-requires

@@ -2,9 +2,10 @@
 -- Assumes nothing.
 use borrow.Author.Needs.{needs}
 use mathlib.Core.Path.{refl, subst}
+use Rattle.config.specs.Limits.{maxTerms}
 use Rattle.protocol.specs.Turns.{takeData}
 use Rattle.protocol.specs.View.{proposalBelow}
-use Rattle.protocol.proofs.Steps.{next-same}
+use Rattle.protocol.proofs.Steps.{next-same, next-if}
 use Rattle.protocol.proofs.turns.take_data.Statement.{statement}
 use Rattle.protocol.proofs.turns.take_data.Tie as tie
 
@@ -17,7 +18,7 @@ enum-known-d c = search needs
 hold-new-requires : tie.Need-hold-new-requires
 hold-new-requires c κs =
     let b = c .before .before .before .before .before in
-    (b .pre .0, subst (proposalBelow 64 (b .args .term .0)) (c .before .before .d .given .1) (b .pre .1))
+    (b .pre .0, subst (proposalBelow maxTerms (b .args .term .0)) (c .before .before .d .given .1) (b .pre .1))
 
 returns : tie.Need-returns
 unfolding takeData
@@ -28,10 +29,7 @@ same-length c = search needs
 
 returns-2 : tie.Need-returns-2
 unfolding takeData
-returns-2 c =
-    let n = c .before .before .hold-new .ensures in
-    rw (c .before .before .before .before .before .d .given .1)
-    (record { wrote = n .wrote; kept = λ d p k. n .kept d (p .0) k; is = n .is })
+returns-2 c = rw (c .before .before .before .before .before .d .given .1) (next-if (λ k p. p .0) (c .before .before .hold-new .ensures))
 
 pub take-data-spec : {M : Type 1} → statement M
 take-data-spec =

@@ -7,18 +7,6 @@ use Rattle.random.proofs.Tables.{by-places}
 use Rattle.random.proofs.chacha.column_round.Statement.{statement}
 use Rattle.random.proofs.chacha.column_round.Tie as tie
 
-quarter-of-requires : tie.Need-quarter-of-requires
-quarter-of-requires c κs = search needs
-
-quarter-of-requires-2 : tie.Need-quarter-of-requires-2
-quarter-of-requires-2 c κs = search needs
-
-quarter-of-requires-3 : tie.Need-quarter-of-requires-3
-quarter-of-requires-3 c κs = search needs
-
-quarter-of-requires-4 : tie.Need-quarter-of-requires-4
-quarter-of-requires-4 c κs = search needs
-
 returns : tie.Need-returns
 unfolding columnRound quarterAt tabulate
 returns c =
@@ -31,4 +19,6 @@ returns c =
 
 pub column-round-spec : {M : Type 1} → statement M
 column-round-spec =
-    tie.close (tie.spec quarter-of-requires quarter-of-requires-2 quarter-of-requires-3 quarter-of-requires-4 returns)
+    tie.close
+    (tie.spec
+    (λ c κs. search needs) (λ c κs. search needs) (λ c κs. search needs) (λ c κs. search needs) returns)

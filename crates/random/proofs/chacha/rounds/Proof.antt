@@ -16,18 +16,6 @@ loop-holds : tie.Need-loop-holds Inv-loop μ-loop
 unfolding rounds
 loop-holds c = (omega arith, refl)
 
-column-round-requires : tie.Need-column-round-requires Inv-loop μ-loop
-column-round-requires c κs = tt
-
-diagonal-round-requires : tie.Need-diagonal-round-requires Inv-loop μ-loop
-diagonal-round-requires c κs = tt
-
-add-i : tie.Need-add-i Inv-loop μ-loop
-add-i c = omega arith
-
-loop-less : tie.Need-loop-less Inv-loop μ-loop
-loop-less c = omega arith
-
 loop-again : tie.Need-loop-again Inv-loop μ-loop
 unfolding rounds
 loop-again c = (
@@ -45,12 +33,5 @@ pub rounds-spec : {M : Type 1} → statement M
 rounds-spec =
     tie.close
     (tie.spec
-    Inv-loop
-    μ-loop
-    loop-holds
-    column-round-requires
-    diagonal-round-requires
-    add-i
-    loop-less
-    loop-again
-    returns)
+    Inv-loop μ-loop loop-holds (λ c κs. tt) (λ c κs. tt) (λ c. omega arith) (λ c. omega arith)
+    loop-again returns)

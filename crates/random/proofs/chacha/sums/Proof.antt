@@ -17,33 +17,6 @@ abbrev μ-loop : tie.MeasureT-loop
 loop-holds : tie.Need-loop-holds Inv-loop μ-loop
 loop-holds c = filled-none _ 16 _ refl
 
-mul-wrapping-add-u32 : tie.Need-mul-wrapping-add-u32 Inv-loop μ-loop
-mul-wrapping-add-u32 c = omega arith
-
-array-read-wrapping-add-u32 : tie.Need-array-read-wrapping-add-u32 Inv-loop μ-loop
-array-read-wrapping-add-u32 c = omega arith
-
-mul-wrapping-add-u32-2 : tie.Need-mul-wrapping-add-u32-2 Inv-loop μ-loop
-mul-wrapping-add-u32-2 c = omega arith
-
-array-read-wrapping-add-u32-2 : tie.Need-array-read-wrapping-add-u32-2 Inv-loop μ-loop
-array-read-wrapping-add-u32-2 c = omega arith
-
-wrapping-add-u32-requires : tie.Need-wrapping-add-u32-requires Inv-loop μ-loop
-wrapping-add-u32-requires c κs = tt
-
-mul-t : tie.Need-mul-t Inv-loop μ-loop
-mul-t c = omega arith
-
-array-write-t : tie.Need-array-write-t Inv-loop μ-loop
-array-write-t c = omega arith
-
-add-i : tie.Need-add-i Inv-loop μ-loop
-add-i c = omega arith
-
-loop-less : tie.Need-loop-less Inv-loop μ-loop
-loop-less c = omega arith
-
 loop-again : tie.Need-loop-again Inv-loop μ-loop
 loop-again c = filled-more (c .wrapping-add-u32 .result) (c .before .before .loop .inv) (omega arith) (c .wrapping-add-u32 .ensures)
 
@@ -55,17 +28,6 @@ pub sums-spec : {M : Type 1} → statement M
 sums-spec =
     tie.close
     (tie.spec
-    Inv-loop
-    μ-loop
-    loop-holds
-    mul-wrapping-add-u32
-    array-read-wrapping-add-u32
-    mul-wrapping-add-u32-2
-    array-read-wrapping-add-u32-2
-    wrapping-add-u32-requires
-    mul-t
-    array-write-t
-    add-i
-    loop-less
-    loop-again
-    returns)
+    Inv-loop μ-loop loop-holds (λ c. omega arith) (λ c. omega arith) (λ c. omega arith)
+    (λ c. omega arith) (λ c κs. tt) (λ c. omega arith) (λ c. omega arith) (λ c. omega arith)
+    (λ c. omega arith) loop-again returns)

@@ -17,17 +17,14 @@ slice-aggregate-put c = search needs
 put-requires : tie.Need-put-requires
 put-requires c κs = search needs
 
-same-length : tie.Need-same-length
-same-length c = search needs
-
 returns : tie.Need-returns
 returns c =
-    let put = c .before .before .put .ensures in
-    let key = c .before .before .before .before .before .key-of .ensures in (
-      put .size,
-      record { key = λ i h. (rw (zero-add i) at (put .placed i (omega arith))) ∙ ap (λ (l : List ℕ). getD l i 0) key; hand = λ no. absurd (no refl) },
-    )
+    let put = c .put .ensures in
+    let key = c .before .before .before .key-of .ensures in
+    record {
+      key = record { size = put .size; words = λ i h. (rw (zero-add i) at (put .placed i (omega arith) (omega arith))) ∙ ap (λ (l : List ℕ). getD l i 0) key };
+      hand = λ no. absurd (no refl);
+    }
 
 pub begin-draws-spec : {M : Type 1} → statement M
-begin-draws-spec =
-    tie.close (tie.spec key-of-requires slice-aggregate-put put-requires same-length returns)
+begin-draws-spec = tie.close (tie.spec key-of-requires slice-aggregate-put put-requires returns)

@@ -1,5 +1,6 @@
-use mathlib.Core.Path.{_≡_, refl, sym, ap, _∙_}
-use mathlib.Core.Bool.{true, false}
+use Prim.Native.Nat.{ℕ}
+use mathlib.Core.Path.{_≡_, sym, ap, _∙_}
+use mathlib.Core.Bool.{Bool, true, false}
 use mathlib.Core.Logic.{⊎-elim, inl, inr}
 use borrow.Author.Needs.{needs}
 use lib.Ieee.{eq, le}
@@ -11,9 +12,12 @@ use Rattle.random.proofs.reception.receive.Tie as tie
 returns : tie.Need-returns
 unfolding heard
 returns c =
-    let rate = c .before .before .args .rate in
+    let rate = c .before .args .rate in
     let none-lost : lossless rate ≡ true = ap (eq rate) (sym zero-bits) ∙ c .if1 .taken in
-    (refl, λ seed r. (rw none-lost, inl (rw none-lost tt)))
+    record {
+      received = λ outcome x. sym (ap (λ (f : ℕ → Bool). f (c .before .args .k)) (x .outcomes) ∙ rw none-lost);
+      next = λ outcome x. record { seed = x .seed; outcomes = x .outcomes; ready = inl (rw none-lost tt) };
+    }
 
 next-draw-requires : tie.Need-next-draw-requires
 next-draw-requires c κs = search needs
@@ -21,21 +25,20 @@ next-draw-requires c κs = search needs
 fraction-requires : tie.Need-fraction-requires
 fraction-requires c κs = search needs
 
-same-length : tie.Need-same-length
-same-length c = search needs
-
 returns-2 : tie.Need-returns-2
 unfolding heard
 returns-2 c =
-    let rate = c .before .before .before .before .before .before .before .args .rate in
-    let some-lost : lossless rate ≡ false = ap (eq rate) (sym zero-bits) ∙ c .before .before .before .before .before .if1 .left in
-    let drawn = c .before .before .before .next-draw .ensures in (
-      drawn .0,
-      λ seed r. ⊎-elim
-          (λ t. absurd (rw some-lost at t))
-          (λ b. (rw some-lost (ap (le rate) (c .fraction .ensures ∙ ap fraction (drawn .1 seed b .0))), inr (drawn .1 seed b .1)))
-          r,
-    )
+    let a = c .before .before .before .before .args in
+    let some-lost : lossless (a .rate) ≡ false = ap (eq (a .rate)) (sym zero-bits) ∙ c .before .before .before .if1 .left in
+    let drawn = c .before .next-draw .ensures in
+    record {
+      received = λ outcome x.
+          ⊎-elim (λ t. absurd (rw some-lost at t))
+          (λ b. sym (ap (λ (f : ℕ → Bool). f (a .k)) (x .outcomes) ∙ rw some-lost (ap (le (a .rate)) (sym (c .fraction .ensures ∙ ap fraction (drawn (x .seed) b .0))))))
+          (x .ready);
+      next = λ outcome x.
+          record { seed = x .seed; outcomes = x .outcomes; ready = ⊎-elim (λ t. absurd (rw some-lost at t)) (λ b. inr (drawn (x .seed) b .1)) (x .ready) };
+    }
 
 pub receive-spec : {M : Type 1} → statement M
-receive-spec = tie.close (tie.spec returns next-draw-requires fraction-requires same-length returns-2)
+receive-spec = tie.close (tie.spec returns next-draw-requires fraction-requires returns-2)

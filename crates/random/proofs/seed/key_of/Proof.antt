@@ -17,24 +17,6 @@ loop-holds : tie.Need-loop-holds Inv-loop μ-loop
 unfolding stateAfter
 loop-holds c = (filled-none _ 8 _ refl, refl)
 
-next-state-requires : tie.Need-next-state-requires Inv-loop μ-loop
-next-state-requires c κs = tt
-
-key-word-requires : tie.Need-key-word-requires Inv-loop μ-loop
-key-word-requires c κs = tt
-
-mul-key : tie.Need-mul-key Inv-loop μ-loop
-mul-key c = omega arith
-
-array-write-key : tie.Need-array-write-key Inv-loop μ-loop
-array-write-key c = omega arith
-
-add-i : tie.Need-add-i Inv-loop μ-loop
-add-i c = omega arith
-
-loop-less : tie.Need-loop-less Inv-loop μ-loop
-loop-less c = omega arith
-
 loop-again : tie.Need-loop-again Inv-loop μ-loop
 unfolding stateAfter
 loop-again c =
@@ -50,14 +32,5 @@ pub key-of-spec : {M : Type 1} → statement M
 key-of-spec =
     tie.close
     (tie.spec
-    Inv-loop
-    μ-loop
-    loop-holds
-    next-state-requires
-    key-word-requires
-    mul-key
-    array-write-key
-    add-i
-    loop-less
-    loop-again
-    returns)
+    Inv-loop μ-loop loop-holds (λ c κs. tt) (λ c κs. tt) (λ c. omega arith) (λ c. omega arith)
+    (λ c. omega arith) (λ c. omega arith) loop-again returns)

@@ -13,17 +13,8 @@ mul-wrapping-add-u64 c = record { fits = product-lt 32 (omega arith) (omega arit
 mul-wrapping-add-u64-2 : tie.Need-mul-wrapping-add-u64-2
 mul-wrapping-add-u64-2 c = record { fits = product-lt 32 (omega arith) (omega arith) }
 
-wrapping-add-u64-requires : tie.Need-wrapping-add-u64-requires
-wrapping-add-u64-requires c κs = search needs
-
 mul-wrapping-add-u64-3 : tie.Need-mul-wrapping-add-u64-3
 mul-wrapping-add-u64-3 c = record { fits = product-lt 32 (omega arith) (omega arith) }
-
-mul-wrapping-add-u64-4 : tie.Need-mul-wrapping-add-u64-4
-mul-wrapping-add-u64-4 c = search needs
-
-wrapping-add-u64-requires-2 : tie.Need-wrapping-add-u64-requires-2
-wrapping-add-u64-requires-2 c κs = search needs
 
 returns : tie.Need-returns
 returns c =
@@ -39,10 +30,5 @@ pub wrapping-mul-u64-spec : {M : Type 1} → statement M
 wrapping-mul-u64-spec =
     tie.close
     (tie.spec
-    mul-wrapping-add-u64
-    mul-wrapping-add-u64-2
-    wrapping-add-u64-requires
-    mul-wrapping-add-u64-3
-    mul-wrapping-add-u64-4
-    wrapping-add-u64-requires-2
-    returns)
+    mul-wrapping-add-u64 mul-wrapping-add-u64-2 (λ c κs. search needs) mul-wrapping-add-u64-3
+    (λ c. search needs) (λ c κs. search needs) returns)

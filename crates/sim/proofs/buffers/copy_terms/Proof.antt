@@ -1,51 +1,63 @@
-use Prim.Native.Nat.{ℕ, _+_, _-_}
-use mathlib.Core.Path.{refl, sym}
+use Prim.Native.Nat.{ℕ, _-_, _≤_, _<_}
+use mathlib.Core.Path.{refl, sym, _∙_}
 use native.Mathlib.Omega.{arith}
-use lib.ListN.{getD}
+use Rattle.config.specs.Limits.{maxTerms}
 use Rattle.random.specs.Table.{tabulate}
 use Rattle.random.proofs.Tables.{length-tabulate, getD-tabulate}
+use Rattle.protocol.specs.View.{termAt}
+use Rattle.protocol.proofs.Frame.{log-room, term-logged, logged-lt}
 use Rattle.sim.proofs.Copies.{Copied, copied-none, copied-more, copied-all, copied-length}
 use Rattle.sim.proofs.buffers.copy_terms.Statement.{statement}
 use Rattle.sim.proofs.buffers.copy_terms.Tie as tie
 
 abbrev Inv-loop : tie.InvT-loop
-Inv-loop states from count out₀ at k₀ out k = Copied (tabulate count (λ (m : ℕ). getD states (from + m) 0)) out₀ at count out k
+Inv-loop states first count out₀ at k₀ out k = Copied (tabulate count (termAt states first)) out₀ at count out k
 
 abbrev μ-loop : tie.MeasureT-loop
-μ-loop states from count out₀ at k₀ out k = count - k
+μ-loop states first count out₀ at k₀ out k = count - k
+
+-- the count is one of terms
+few : (s : tie.Start Inv-loop μ-loop) → s .args .count ≤ maxTerms
+few s = omega (arith, s .pre .1, log-room (s .pre .0))
 
 loop-holds : tie.Need-loop-holds Inv-loop μ-loop
 loop-holds c = copied-none _ _ _ _
 
-add-out : tie.Need-add-out Inv-loop μ-loop
-add-out c = omega (arith, c .before .before .pre .0)
-
-mul-out : tie.Need-mul-out Inv-loop μ-loop
-mul-out c = omega (arith, c .before .before .pre .0)
-
-shared-slice-read-out : tie.Need-shared-slice-read-out Inv-loop μ-loop
-shared-slice-read-out c = omega (arith, c .before .before .before .pre .0)
+logged-term-requires : tie.Need-logged-term-requires Inv-loop μ-loop
+logged-term-requires c κs =
+    let s = c .before .before .before .before in
+    (s .pre .0 .fits, omega (arith, few s))
 
 cast-out : tie.Need-cast-out Inv-loop μ-loop
-cast-out c = omega (arith, c .before .before .before .pre .2 (c .before .before .loop .k) (omega arith))
+cast-out c =
+    let l = c .before .before .before in
+    let s = l .before .before .before in
+    let kept = s .pre .0 in
+    omega (arith, c .before .logged-term .ensures, logged-lt kept _ (term-logged kept (l .loop .k) (omega (arith, s .pre .1))))
 
-add-out-2 : tie.Need-add-out-2 Inv-loop μ-loop
-add-out-2 c = omega (arith, c .before .before .before .pre .1, copied-length (c .before .before .loop .inv))
+add-out : tie.Need-add-out Inv-loop μ-loop
+add-out c =
+    let l = c .before .before .before in
+    omega (arith, l .before .before .before .pre .2, copied-length (l .loop .inv))
 
 slice-write-out : tie.Need-slice-write-out Inv-loop μ-loop
-slice-write-out c = omega (arith, c .before .before .before .pre .1, copied-length (c .before .before .loop .inv))
+slice-write-out c =
+    let l = c .before .before .before in
+    omega (arith, l .before .before .before .pre .2, copied-length (l .loop .inv))
 
 add-k : tie.Need-add-k Inv-loop μ-loop
-add-k c = omega arith
+add-k c = omega (arith, few (c .before .before .before .before .before .before))
 
 loop-less : tie.Need-loop-less Inv-loop μ-loop
 loop-less c = omega arith
 
 loop-again : tie.Need-loop-again Inv-loop μ-loop
 loop-again c =
-    let a = c .before .before .before .args in
-    let l = c .before .before .loop in
-    copied-more (l .inv) (omega arith) (omega (arith, length-tabulate (a .count) (λ (m : ℕ). getD (a .states .now) (a .from + m) 0))) refl (sym (getD-tabulate (a .count) (λ (m : ℕ). getD (a .states .now) (a .from + m) 0) (l .k) 0 (omega arith)))
+    let l = c .before .before .before in
+    let a = l .before .before .before .args in
+    let terms = termAt (a .states .now) (a .first) in
+    copied-more (l .loop .inv) (omega arith) (omega (arith, length-tabulate (a .count) terms)) refl
+    (c .before .logged-term .ensures ∙ sym (getD-tabulate (a .count) terms (l .loop .k) 0 (omega arith)))
 
 same-length : tie.Need-same-length Inv-loop μ-loop
 same-length c = copied-length (c .before .loop .inv)
@@ -60,11 +72,9 @@ copy-terms-spec =
     Inv-loop
     μ-loop
     loop-holds
-    add-out
-    mul-out
-    shared-slice-read-out
+    logged-term-requires
     cast-out
-    add-out-2
+    add-out
     slice-write-out
     add-k
     loop-less

@@ -5,8 +5,10 @@ use native.Mathlib.Omega.{arith}
 use denote.Ref.{now}
 use lib.ListN.{length}
 use lib.Seq.{sets}
+use Rattle.config.specs.Limits.{maxTerms, logCounts}
+use Rattle.protocol.specs.Layout.{firstOf}
 use Rattle.protocol.specs.View.{logOf}
-use Rattle.sim.specs.Entries.{terms, logsWith}
+use Rattle.rules.specs.Entries.{terms, logsWith}
 use Rattle.pipeline.specs.View.{statesOf}
 use Rattle.sim.proofs.Copies.{logs-more, logs-length}
 use Rattle.sim.proofs.buffers.write_logs.Statement.{statement}
@@ -27,7 +29,7 @@ write-log-requires c κs =
     let l = c .before .before .loop in
     let start = c .before .before .before .before .before in
     let size : length (l .logs) ≡ length (now (start .args .logs)) = ap length (l .inv .1) ∙ logs-length (now (start .args .logs)) (statesOf (start .args .n) (now (start .args .states))) (l .i) in
-    (start .pre .0 .each (l .i) (omega arith), (omega (arith, start .pre .1 .0), omega (arith, size, start .pre .1 .1)))
+    (start .pre .0 .each (l .i) (omega arith), omega (arith, start .pre .1), omega (arith, size, start .pre .2))
 
 add-i : tie.Need-add-i Inv-loop μ-loop
 add-i c = omega arith
@@ -39,8 +41,8 @@ loop-again : tie.Need-loop-again Inv-loop μ-loop
 loop-again c =
     let l = c .before .before .before .before .before .loop in
     let a = c .before .before .before .before .before .before .before .before .args in
-    let log = terms (logOf (now (a .states)) (195 * l .i)) in
-    (omega arith, c .before .before .write-log .ensures ∙ ap (λ (m : List ℕ). sets (sets m (64 * l .i) log) (2048 + l .i) (length log ∷ [])) (l .inv .1) ∙ logs-more (now (a .logs)) (a .n) (l .i) (now (a .states)) (omega arith))
+    let log = terms (logOf (now (a .states)) (firstOf (l .i))) in
+    (omega arith, c .before .before .write-log .ensures ∙ ap (λ (m : List ℕ). sets (sets m (maxTerms * l .i) log) (logCounts + l .i) (length log ∷ [])) (l .inv .1) ∙ logs-more (now (a .logs)) (a .n) (l .i) (now (a .states)) (omega arith))
 
 same-length : tie.Need-same-length Inv-loop μ-loop
 same-length c = let a = c .before .before .before .before .args in ap length (c .before .loop .inv .1) ∙ logs-length (now (a .logs)) (statesOf (a .n) (now (a .states))) (c .before .loop .i)

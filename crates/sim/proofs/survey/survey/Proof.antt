@@ -1,4 +1,4 @@
-use Prim.Native.Nat.{ℕ, zero, suc, _*_, _-_, _≤_, _<_, min}
+use Prim.Native.Nat.{ℕ, zero, suc, _-_, _≤_, _<_, min}
 use mathlib.Core.Path.{_≡_, sym, ap, ap₂, _∙_}
 use mathlib.Core.Bool.{Bool, true, _&&_, and-comm, and-assoc}
 use mathlib.Core.Logic.{⊎-elim}
@@ -9,13 +9,15 @@ use native.Mathlib.Omega.{arith}
 use denote.Ref.{now}
 use lib.Count.{ones}
 use lib.ListN.{length}
+use Rattle.config.specs.Limits.{maxTerms}
 use Rattle.network.specs.Graph.{has, all}
 use Rattle.network.proofs.Sets.{and-both, same, all-cong, all-elim}
+use Rattle.protocol.specs.Layout.{firstOf}
 use Rattle.protocol.specs.Paxos.{State, logged}
 use Rattle.protocol.specs.View.{loggedSet}
 use Rattle.protocol.proofs.Frame.{log-room}
 use Rattle.pipeline.specs.Round.{stateOf, shortestFrom}
-use Rattle.sim.specs.Run.{complete}
+use Rattle.rules.specs.Run.{complete}
 use Rattle.pipeline.specs.View.{AllKept, statesOf}
 use Rattle.pipeline.proofs.Sharing.{state-at, log-length}
 use Rattle.sim.proofs.Full.{all-and}
@@ -32,7 +34,7 @@ shortest-le k states (suc m) = le-trans (min-le-left _ _) (shortest-le k states 
 abbrev full : ℕ → List ℕ → ℕ → ℕ → Bool
 full n states proposals i = all proposals (λ (t : ℕ). logged t (stateOf (statesOf n states) i .log))
 
-full-is : (n : ℕ) (states : List ℕ) (proposals i : ℕ) → AllKept 64 n states → i < n → all proposals (has (loggedSet states (195 * i))) ≡ full n states proposals i
+full-is : (n : ℕ) (states : List ℕ) (proposals i : ℕ) → AllKept maxTerms n states → i < n → all proposals (has (loggedSet states (firstOf i))) ≡ full n states proposals i
 full-is n states proposals i k h =
     all-cong proposals (λ t _. sym (k .each i h .logged-is t))
     ∙ ap (λ (s : State). all proposals (λ (t : ℕ). logged t (s .log))) (sym (state-at n states i h))
@@ -46,37 +48,52 @@ Inv-loop states n proposals first shortest₀ common₀ j₀ shortest common j =
 abbrev μ-loop : tie.MeasureT-loop
 μ-loop states n proposals first shortest₀ common₀ j₀ shortest common j = n - j
 
-shared-slice-read-first : tie.Need-shared-slice-read-first Inv-loop μ-loop
-shared-slice-read-first c = omega (arith, c .before .before .pre .0 .each 0 (c .before .before .pre .1) .fits)
+-- the set that is read is node 0's, and in the loop node j's
+first-is : (c : tie.After-logged-set Inv-loop μ-loop) → c .logged-set .result ≡ loggedSet (now (c .before .before .before .args .states)) (firstOf 0)
+first-is c = c .logged-set .ensures ∙ ap (loggedSet (now (c .before .before .before .args .states))) (c .before .place-of .ensures)
+
+logged-is : (c : tie.After-logged-set2 Inv-loop μ-loop) →
+    let l = c .before .before .before in
+    c .logged-set2 .result ≡ loggedSet (now (l .before .before .before .before .args .states)) (firstOf (l .loop .j))
+logged-is c =
+    c .logged-set2 .ensures ∙ ap (loggedSet (now (c .before .before .before .before .before .before .before .args .states))) (c .before .place-of2 .ensures)
+
+place-of-requires : tie.Need-place-of-requires Inv-loop μ-loop
+place-of-requires c κs = omega arith
+
+logged-set-requires : tie.Need-logged-set-requires Inv-loop μ-loop
+logged-set-requires c κs =
+    let pre = c .before .before .pre in
+    omega (arith, c .place-of .ensures, pre .0 .each 0 (pre .1) .fits)
 
 cast-shortest : tie.Need-cast-shortest Inv-loop μ-loop
-cast-shortest c = omega (arith, log-room (c .before .before .pre .0 .each 0 (c .before .before .pre .1)))
+cast-shortest c =
+    let pre = c .before .before .before .pre in
+    omega (arith, ap ones (first-is c), log-room (pre .0 .each 0 (pre .1)))
 
 loop-holds : tie.Need-loop-holds Inv-loop μ-loop
 unfolding shortestFrom all
 loop-holds c =
-    let p = c .before .before .pre in
-    let a = c .before .before .args in (
+    let start = c .before .before .before in
+    let p = start .pre in
+    let a = start .args in (
       omega arith,
-      sym (log-length (a .n) (now (a .states)) 0 (p .1)),
-      full-is (a .n) (now (a .states)) (a .proposals) 0 (p .0) (p .1) ∙ and-comm true (full (a .n) (now (a .states)) (a .proposals) 0),
+      ap ones (first-is c) ∙ sym (log-length (a .n) (now (a .states)) 0 (p .1)),
+      ap (λ (w : ℕ). all (a .proposals) (has w)) (first-is c) ∙ full-is (a .n) (now (a .states)) (a .proposals) 0 (p .0) (p .1) ∙ and-comm true (full (a .n) (now (a .states)) (a .proposals) 0),
     )
 
-mul-logged : tie.Need-mul-logged Inv-loop μ-loop
-mul-logged c = omega arith
+place-of-requires-2 : tie.Need-place-of-requires-2 Inv-loop μ-loop
+place-of-requires-2 c κs = omega arith
 
-add-logged : tie.Need-add-logged Inv-loop μ-loop
-add-logged c = omega arith
-
-mul-logged-2 : tie.Need-mul-logged-2 Inv-loop μ-loop
-mul-logged-2 c = omega arith
-
-shared-slice-read-logged : tie.Need-shared-slice-read-logged Inv-loop μ-loop
-shared-slice-read-logged c = omega (arith, c .before .before .before .before .before .pre .0 .each (c .before .before .loop .j) (omega arith) .fits)
+logged-set-requires-2 : tie.Need-logged-set-requires-2 Inv-loop μ-loop
+logged-set-requires-2 c κs =
+    let l = c .before .before in
+    omega (arith, c .place-of2 .ensures, l .before .before .before .before .pre .0 .each (l .loop .j) (omega arith) .fits)
 
 cast-smaller : tie.Need-cast-smaller Inv-loop μ-loop
 cast-smaller c =
-    omega (arith, log-room (c .before .before .before .before .before .before .pre .0 .each (c .before .before .before .loop .j) (omega arith)))
+    let l = c .before .before .before .before in
+    omega (arith, ap ones (logged-is (c .before)), log-room (l .before .before .before .before .pre .0 .each (l .loop .j) (omega arith)))
 
 smaller-requires : tie.Need-smaller-requires Inv-loop μ-loop
 smaller-requires c κs = tt
@@ -90,36 +107,38 @@ loop-less c = omega arith
 loop-again : tie.Need-loop-again Inv-loop μ-loop
 unfolding shortestFrom all
 loop-again c =
-    let l = c .before .before .before .loop in
-    let start = c .before .before .before .before .before .before in
+    let top = c .before .before .before .before in
+    let l = top .loop in
+    let start = top .before .before .before .before in
     let a = start .args in
     let b = now (a .states) in
+    let set-is = logged-is (c .before) in
     let states = statesOf (a .n) b in
     let here : l .j < a .n = omega arith in
     let size = log-length (a .n) b in
     let f = full (a .n) b (a .proposals) in (
       omega arith,
-      ⊎-elim (λ w. w .2 ∙ w .1 .ensures ∙ ap₂ min (l .inv .1) (sym (size (l .j) here)))
+      ⊎-elim (λ w. w .2 ∙ w .1 .ensures ∙ ap₂ min (l .inv .1) (ap ones set-is ∙ sym (size (l .j) here)))
           (λ w.
           w .1
           ∙ l .inv .1
-          ∙ sym (min-eq-left (le-trans (shortest-le (length (stateOf states 0 .log)) states (l .j)) (le-of-eq (size 0 (start .pre .1) ∙ ap ones (sym (w .0 .left)) ∙ sym (size (l .j) here))))))
+          ∙ sym (min-eq-left (le-trans (shortest-le (length (stateOf states 0 .log)) states (l .j)) (le-of-eq (size 0 (start .pre .1) ∙ ap ones (sym (first-is (top .before)) ∙ sym (w .0 .left) ∙ set-is) ∙ sym (size (l .j) here))))))
           (c .if1 .came)
           ∙ ap (shortestFrom (length (stateOf states 0 .log)) states) (sym (add-one (l .j))),
-      all-and (a .proposals) (l .common) (loggedSet b (195 * l .j))
-          ∙ ap₂ _&&_ (l .inv .2) (full-is (a .n) b (a .proposals) (l .j) (start .pre .0) here)
+      all-and (a .proposals) (l .common) (c .before .logged-set2 .result)
+          ∙ ap₂ _&&_ (l .inv .2) (ap (λ (w : ℕ). all (a .proposals) (has w)) set-is ∙ full-is (a .n) b (a .proposals) (l .j) (start .pre .0) here)
           ∙ and-assoc (f 0) (all (l .j) f) (f (l .j))
           ∙ ap (λ (k : ℕ). f 0 && all k f) (sym (add-one (l .j))),
     )
 
 logs-all-requires : tie.Need-logs-all-requires Inv-loop μ-loop
-logs-all-requires c κs = c .before .before .before .before .pre .3
+logs-all-requires c κs = c .before .before .before .before .before .pre .3
 
 returns : tie.Need-returns Inv-loop μ-loop
 unfolding complete
 returns c =
     let l = c .before .before .loop in
-    let start = c .before .before .before .before .before in
+    let start = c .before .before .before .before .before .before in
     let a = start .args in
     let states = statesOf (a .n) (now (a .states)) in
     let f = full (a .n) (now (a .states)) (a .proposals) in
@@ -137,13 +156,12 @@ survey-spec =
     (tie.spec
     Inv-loop
     μ-loop
-    shared-slice-read-first
+    place-of-requires
+    logged-set-requires
     cast-shortest
     loop-holds
-    mul-logged
-    add-logged
-    mul-logged-2
-    shared-slice-read-logged
+    place-of-requires-2
+    logged-set-requires-2
     cast-smaller
     smaller-requires
     add-j

@@ -1,0 +1,78 @@
+-- The definitions of the entries, where a slice for results is too short and where it is not.
+-- Assumes nothing.
+use Prim.Native.Nat.{ℕ, _≤_, _<_}
+use mathlib.Core.Path.{_≡_, sym, ap, _∙_}
+use mathlib.Core.List.{List}
+use lib.Ieee.{Float}
+use lib.ListN.{length}
+use borrow.Author.Tests.{le-leb, lt-leb}
+use Rattle.network.specs.Topology.{builtRows}
+use Rattle.network.specs.Distance.{measured}
+use Rattle.network.specs.declared.topology.Built.{Built}
+use Rattle.network.specs.declared.distance.Measured.{Measured}
+use Rattle.config.specs.declared.Config.{Config}
+use Rattle.rules.specs.declared.answer.Answer.{Answer}
+use Rattle.metrics.specs.declared.ratios.Ratio.{Ratio}
+use Rattle.rules.specs.Entries.{runOfRows, runOfTopology}
+use Rattle.rules.specs.Answers.{outcome}
+use Rattle.metrics.specs.Ratio.{ratioOf}
+use Rattle.capi.specs.Capi.{short, summarySize, builtResult, returnedRows, measuredResult, returnedDiameter, ratioResult, returnedRatio, resultOf, withSummary, returned, returnedOutcome, returnedTopology, returnedRun}
+
+module _ (topology first second : ℕ) (out nodes : List ℕ) where
+  pub rows-short : length nodes < 1 → _≡_ {A = ℕ × List ℕ × List ℕ} (short, out, nodes) (returnedRows topology first second out nodes)
+  unfolding returnedRows
+  rows-short h = rw (lt-leb _ _ h)
+
+  pub rows-returned : 1 ≤ length nodes → (b b' : Built) (l : List ℕ) → b ≡ b' → _≡_ {A = Built × List ℕ} (b, l) (builtRows topology first second out) →
+      builtResult (b', l) nodes ≡ returnedRows topology first second out nodes
+  unfolding returnedRows
+  rows-returned h b b' l known e = rw (le-leb _ _ h) (ap (λ (x : Built × List ℕ). builtResult x nodes) (ap (λ (x : Built). (x, l)) (sym known) ∙ e))
+
+module _ (rows : List ℕ) (n : ℕ) (links : List ℕ) where
+  pub diameter-short : length links < 1 → _≡_ {A = ℕ × List ℕ} (short, links) (returnedDiameter rows n links)
+  unfolding returnedDiameter
+  diameter-short h = rw (lt-leb _ _ h)
+
+  pub diameter-returned : 1 ≤ length links → (m m' : Measured) → m ≡ m' → m ≡ measured rows n → measuredResult m' links ≡ returnedDiameter rows n links
+  unfolding returnedDiameter
+  diameter-returned h m m' known e = rw (le-leb _ _ h) (ap (λ (x : Measured). measuredResult x links) (sym known ∙ e))
+
+module _ (part whole : ℕ) (out : List Float) where
+  pub ratio-short : length out < 1 → _≡_ {A = ℕ × List Float} (short, out) (returnedRatio part whole out)
+  unfolding returnedRatio
+  ratio-short h = rw (lt-leb _ _ h)
+
+  pub ratio-returned : 1 ≤ length out → (x x' : Ratio) → x ≡ x' → x ≡ ratioOf part whole → ratioResult x' out ≡ returnedRatio part whole out
+  unfolding returnedRatio
+  ratio-returned h x x' known e = rw (le-leb _ _ h) (ap (λ (y : Ratio). ratioResult y out) (sym known ∙ e))
+
+-- a run's answer, written to a slice
+convert : (k : ℕ) (s : List ℕ) (a : Answer) (l r p summary : List ℕ) → _≡_ {A = ℕ × List ℕ} (k, s) (resultOf a, withSummary a summary) →
+    returned k s l r p ≡ returnedOutcome summary (outcome a l r p)
+convert k s a l r p summary e = ap (λ (x : ℕ × List ℕ). returned (x .0) (x .1) l r p) e
+
+module _ (topology first second : ℕ) (c : Config) (summary logs records snapshots : List ℕ) where
+  pub topology-short : length summary < summarySize → returned short summary logs records snapshots ≡ returnedTopology topology first second c summary logs records snapshots
+  unfolding returnedTopology
+  topology-short h = rw (lt-leb _ _ h)
+
+  pub topology-returned : summarySize ≤ length summary → (k : ℕ) (s : List ℕ) (c' : Config) (a : Answer) (l r p : List ℕ) → _≡_ {A = ℕ × List ℕ} (k, s) (resultOf a, withSummary a summary) →
+      c' ≡ c → outcome a l r p ≡ runOfTopology topology first second c' logs records snapshots →
+      returned k s l r p ≡ returnedTopology topology first second c summary logs records snapshots
+  unfolding returnedTopology
+  topology-returned h k s c' a l r p written configured e =
+      rw (le-leb _ _ h)
+      (convert k s a l r p summary written ∙ ap (returnedOutcome summary) (e ∙ ap (λ (x : Config). runOfTopology topology first second x logs records snapshots) configured))
+
+module _ (rows : List ℕ) (n : ℕ) (c : Config) (summary logs records snapshots : List ℕ) where
+  pub run-short : length summary < summarySize → returned short summary logs records snapshots ≡ returnedRun rows n c summary logs records snapshots
+  unfolding returnedRun
+  run-short h = rw (lt-leb _ _ h)
+
+  pub run-returned : summarySize ≤ length summary → (k : ℕ) (s : List ℕ) (c' : Config) (a : Answer) (l r p : List ℕ) → _≡_ {A = ℕ × List ℕ} (k, s) (resultOf a, withSummary a summary) →
+      c' ≡ c → outcome a l r p ≡ runOfRows rows n c' logs records snapshots →
+      returned k s l r p ≡ returnedRun rows n c summary logs records snapshots
+  unfolding returnedRun
+  run-returned h k s c' a l r p written configured e =
+      rw (le-leb _ _ h)
+      (convert k s a l r p summary written ∙ ap (returnedOutcome summary) (e ∙ ap (λ (x : Config). runOfRows rows n x logs records snapshots) configured))

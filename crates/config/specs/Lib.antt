@@ -1,0 +1,2 @@
+-- What is right for the crate `config`.
+pub mod Limits

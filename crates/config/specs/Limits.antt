@@ -1,0 +1,50 @@
+-- The limits of the rules and the layouts of the lent buffers, each by its name.
+use Prim.Native.Nat.{ℕ, _+_, _*_}
+
+-- the most nodes of a graph
+abbrev pub maxNodes : ℕ
+maxNodes = 32
+
+-- the most terms: proposals, logged terms of a node, and records
+abbrev pub maxTerms : ℕ
+maxTerms = 64
+
+abbrev pub maxRepeats : ℕ
+maxRepeats = 64
+
+abbrev pub maxRoundSlots : ℕ
+maxRoundSlots = 4096
+
+-- the most children of a node of a tree
+abbrev pub maxBranching : ℕ
+maxBranching = 32
+
+-- end 3: the round's index is above P + 1,000
+abbrev pub extraRounds : ℕ
+extraRounds = 1000
+
+-- Rounds of a run of P proposals: end 3 comes after index P + 1,001 at the latest.
+abbrev pub mostRounds : ℕ → ℕ
+mostRounds proposals = proposals + (extraRounds + 2)
+
+-- a record: id, start, end
+abbrev pub recordSize : ℕ
+recordSize = 3
+
+abbrev pub recordsSize : ℕ
+recordsSize = recordSize * maxTerms
+
+-- a snapshot: slot, progress, listening, flooding, sleeping
+abbrev pub snapshotSize : ℕ
+snapshotSize = 5
+
+-- the log buffer: terms of node i from byte 64i, its count at 2,048 + i
+abbrev pub logCounts : ℕ
+logCounts = maxTerms * maxNodes
+
+abbrev pub logSize : ℕ
+logSize = logCounts + maxNodes
+
+-- the most snapshots that the program lists
+abbrev pub maxListed : ℕ
+maxListed = 1000

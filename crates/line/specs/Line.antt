@@ -1,0 +1,103 @@
+-- The program's line (document 01, "The printed run"): "topology, nodes or rows, second number, repeats, round slots or `-`, loss
+-- (16 lowercase hexadecimal digits of the f64), seed, P, interval, slot limit; single spaces; decimals of 1 to 20 digits below 2^64.
+-- The line ends at the first newline or the end of the input; what follows is ignored."
+use Prim.Native.Nat.{ℕ, _+_}
+use mathlib.Core.Bool.{Bool, cond, _&&_}
+use mathlib.Core.Option.{Option, none, some}
+use mathlib.Core.List.{List, [], _∷_}
+use lib.Dec.{eqb}
+use lib.ListN.{length, getD}
+use Rattle.line.specs.Numeral.{decimal, hexadecimal}
+use Rattle.config.specs.declared.RoundSlots.{RoundSlots}
+use Rattle.config.specs.declared.RoundSlots.the-variants.{Absent, Of}
+use Rattle.line.specs.declared.read.Slots.{Slots}
+use Rattle.line.specs.declared.read.Slots.the-variants.{Given, Unreadable as Slots·Unreadable}
+use Rattle.line.specs.declared.read.Four.{Four}
+use Rattle.line.specs.declared.read.Four.the-variants.{Of as Four·Of, Unreadable as Four·Unreadable}
+use Rattle.line.specs.declared.read.Read.{Read}
+use Rattle.line.specs.declared.read.Read.the-variants.{Line as Read·Line, Unreadable}
+
+abbrev pub newline : ℕ
+newline = 10
+
+abbrev pub space : ℕ
+space = 32
+
+abbrev pub dash : ℕ
+dash = 45
+
+-- the bytes before the first `stop`, or all of them
+unfoldable pub before : ℕ → List ℕ → List ℕ
+before stop [] = []
+before stop (b ∷ bs) = cond (eqb b stop) [] (b ∷ before stop bs)
+
+-- a byte in front of the first field; there always is one
+unfoldable pub prefixed : ℕ → List (List ℕ) → List (List ℕ)
+prefixed b [] = []
+prefixed b (f ∷ fs) = (b ∷ f) ∷ fs
+
+-- the fields of a line: what stands between its single spaces, so one more than it has spaces
+unfoldable pub fields : List ℕ → List (List ℕ)
+fields [] = [] ∷ []
+fields (b ∷ bs) = cond (eqb b space) ([] ∷ fields bs) (prefixed b (fields bs))
+
+-- a text is `-`
+unfoldable pub isDash : List ℕ → Bool
+isDash t = eqb (length t) 1 && eqb (getD t 0 0) dash
+
+abbrev pub given : Option ℕ → Option RoundSlots
+given none = none
+given (some n) = some (Of n)
+
+-- `-` where the round slots are absent, else a decimal
+unfoldable pub roundSlots : List ℕ → Option RoundSlots
+roundSlots t = cond (isDash t) (some Absent) (given (decimal t))
+
+-- go on with a field that is readable
+unfoldable pub _>>=_ : {A : Type 0} → Option A → (A → Read) → Read
+none >>= k = Unreadable
+some a >>= k = k a
+
+infixl 10 _>>=_
+-- four decimals from field k on, and what is made of them
+unfoldable pub fourDecimals : List (List ℕ) → ℕ → (ℕ → ℕ → ℕ → ℕ → Read) → Read
+fourDecimals fs k next = do
+  a ← decimal (getD fs k [])
+  b ← decimal (getD fs (k + 1) [])
+  c ← decimal (getD fs (k + 2) [])
+  d ← decimal (getD fs (k + 3) [])
+  next a b c d
+
+-- the ten fields, each of its kind
+unfoldable pub readFields : List (List ℕ) → Read
+readFields fs =
+    fourDecimals fs 0 λ topology first second repeats.
+    roundSlots (getD fs 4 []) >>= λ slots.
+    hexadecimal (getD fs 5 []) >>= λ loss.
+    fourDecimals fs 6 λ seed proposals interval limit.
+    Read·Line (record {
+      topology = topology;
+      first = first;
+      second = second;
+      repeats = repeats;
+      «round_slots» = slots;
+      loss = loss;
+      seed = seed;
+      proposals = proposals;
+      interval = interval;
+      limit = limit;
+    })
+
+-- what the input asks for
+unfoldable pub readLine : List ℕ → Read
+readLine input = let fs = fields (before newline input) in cond (eqb (length fs) 10) (readFields fs) Unreadable
+
+-- what the reader of the round slots answers
+abbrev pub slotsOf : Slots → Option RoundSlots
+slotsOf (Given s) = some s
+slotsOf Slots·Unreadable = none
+
+-- what is made of the answer of the reader of four decimals
+abbrev pub fourOf : Four → (ℕ → ℕ → ℕ → ℕ → Read) → Read
+fourOf (Four·Of a b c d) next = next a b c d
+fourOf Four·Unreadable next = Unreadable

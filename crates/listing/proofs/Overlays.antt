@@ -1,0 +1,86 @@
+-- Texts laid behind each other. Assumes nothing.
+use Prim.Native.Nat.{ℕ, suc, _+_, _*_, _/_, _%_, _^_, _≤_, _<_}
+use mathlib.Core.Path.{_≡_, refl, sym, ap, _∙_}
+use mathlib.Core.List.{List, [], _∷_, _++_}
+use native.Mathlib.Nat.{mul-suc, zero-add, le-antisymm}
+use native.Mathlib.Numerals.{add-one}
+use native.Mathlib.Omega.{arith}
+use lib.ListN.{length, getD, take, set, length-append}
+use lib.Seq.{sets, length-sets, take-suc}
+use Rattle.listing.specs.Listing.{each, spelled, numberMost}
+use Rattle.listing.specs.Overlay.{Laid, Written}
+use Rattle.listing.proofs.Spelling.{spelled-low, spelled-high, spelled-short}
+
+sets-append : (l : List ℕ) (i : ℕ) (s t : List ℕ) → sets l i (s ++ t) ≡ sets (sets l i s) (i + length s) t
+sets-append l i [] t = let e : i + 0 ≡ i = omega arith in rw e
+sets-append l i (b ∷ s) t =
+    let e : i + suc (length s) ≡ suc i + length s = omega arith in
+    sets-append (set l i b) (suc i) s t ∙ ap (λ n. sets (sets (set l i b) (suc i) s) n t) (sym e)
+
+-- a list up to a place, and one element more
+pub take-more : (l : List ℕ) (i : ℕ) → i < length l → take (i + 1) l ≡ take i l ++ (getD l i 0 ∷ [])
+take-more l i inside = rw (add-one, take-suc l i 0 inside)
+
+pub nothing : (l : List ℕ) (at : ℕ) → Laid 0 l at [] l at
+nothing l at = record { contents = refl; place = omega arith; short = omega arith }
+
+-- one text behind another
+pub _then_ :
+    {m m′ : ℕ} {l l′ l″ : List ℕ} {at at′ at″ : ℕ} {s t : List ℕ} →
+    Laid m l at s l′ at′ → Laid m′ l′ at′ t l″ at″ → Laid (m + m′) l at (s ++ t) l″ at″
+_then_ {l = l} {at = at} {s = s} {t = t} a b =
+    record {
+      contents = b .contents ∙ rw (a .contents, a .place) (sym (sets-append l at s t));
+      place = omega (arith, a .place, b .place, length-append s t);
+      short = omega (arith, length-append s t, a .short, b .short);
+    }
+
+infixl 20 _then_
+module _ {m : ℕ} {l l′ : List ℕ} {at at′ : ℕ} {s : List ℕ} (a : Laid m l at s l′ at′) where
+  -- how far a text reaches
+  pub reach : at′ ≤ at + m
+  reach = omega (arith, a .place, a .short)
+
+  -- another bound
+  pub bounded : {m′ : ℕ} → length s ≤ m′ → Laid m′ l at s l′ at′
+  bounded h = record { contents = a .contents; place = a .place; short = h }
+
+  pub within : {m′ : ℕ} → m ≤ m′ → Laid m′ l at s l′ at′
+  within h = bounded (omega (arith, a .short))
+
+  -- the buffer keeps its length
+  pub same-size : length l′ ≡ length l
+  same-size = ap length (a .contents) ∙ length-sets l at s
+
+-- a text from the buffer's start on
+pub whole : {m : ℕ} {l l′ : List ℕ} {at′ : ℕ} {s : List ℕ} → Laid m l 0 s l′ at′ → Written m s l l′ at′
+whole a = record { contents = a .contents; counted = a .place ∙ zero-add _; short = a .short }
+
+-- a number's text: one digit, and one digit more
+module _ (n : ℕ) where
+  pub one-digit : {l l′ : List ℕ} {at at′ : ℕ} → n < 10 → Laid 1 l at ((48 + n) ∷ []) l′ at′ → Laid numberMost l at (spelled n) l′ at′
+  one-digit h a = rw (spelled-low n h) (within a (omega arith))
+
+  pub digit-more :
+      {l l′ l″ : List ℕ} {at at′ at″ : ℕ} → 10 ≤ n → n < 2 ^ 64 →
+      Laid numberMost l at (spelled (n / 10)) l′ at′ → Laid 1 l′ at′ ((48 + n % 10) ∷ []) l″ at″ → Laid numberMost l at (spelled n) l″ at″
+  digit-more h f a b = rw (spelled-high n h) (bounded (a then b) (rw (← spelled-high n h) (spelled-short numberMost n (omega arith) (omega arith))))
+
+-- A loop that lays n texts of at most m bytes one after the other: the first i of them are laid.
+pub record Listed (f : ℕ → List ℕ) (m n : ℕ) (l : List ℕ) (at i : ℕ) (l′ : List ℕ) (at′ : ℕ) : Type 0 where
+  pub inside : i ≤ n
+  pub laid : Laid (m * i) l at (each f i) l′ at′
+
+-- its start, its step and its end
+module _ {f : ℕ → List ℕ} {m n : ℕ} {l : List ℕ} {at : ℕ} where
+  pub each-none : Listed f m n l at 0 l at
+  unfolding each
+  each-none = record { inside = omega arith; laid = within (nothing l at) (omega arith) }
+
+  module _ {i : ℕ} {l′ : List ℕ} {at′ : ℕ} (t : Listed f m n l at i l′ at′) where
+    pub each-more : {l″ : List ℕ} {at″ : ℕ} → i < n → Laid m l′ at′ (f i) l″ at″ → Listed f m n l at (i + 1) l″ at″
+    unfolding each
+    each-more h b = record { inside = omega arith; laid = rw (add-one i, mul-suc) (t .laid then b) }
+
+    pub each-all : {most : ℕ} → n ≤ i → m * n ≤ most → Laid most l at (each f n) l′ at′
+    each-all h b = within (rw (le-antisymm (t .inside) h) at (t .laid)) b

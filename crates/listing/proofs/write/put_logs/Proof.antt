@@ -1,0 +1,25 @@
+use Prim.Native.Nat.{_-_}
+use native.Mathlib.Omega.{arith}
+use Rattle.listing.specs.Listing.{log, logMost}
+use Rattle.listing.proofs.Overlays.{Listed, each-none, each-more, each-all, reach, same-size}
+use Rattle.listing.proofs.write.put_logs.Statement.{statement}
+use Rattle.listing.proofs.write.put_logs.Tie as tie
+
+abbrev Inv-loop : tie.InvT-loop
+Inv-loop n logs out₀ at next₀ i₀ i-end out next i = Listed (log logs) logMost n out₀ at i out next
+
+abbrev μ-loop : tie.MeasureT-loop
+μ-loop n logs out₀ at next₀ i₀ i-end out next i = n - i
+
+put-log-requires : tie.Need-put-log-requires Inv-loop μ-loop
+put-log-requires c κs = omega (arith, reach (c .before .before .loop .inv .laid), c .before .before .before .before .before .pre)
+
+loop-again : tie.Need-loop-again Inv-loop μ-loop
+loop-again c = each-more (c .before .before .before .before .before .loop .inv) (omega arith) (c .before .before .put-log .ensures)
+
+pub put-logs-spec : {M : Type 1} → statement M
+put-logs-spec =
+    tie.close
+    (tie.spec
+    Inv-loop μ-loop (λ c. each-none) put-log-requires (λ c. omega arith) (λ c. omega arith) loop-again
+    (λ c. same-size (c .before .loop .inv .laid)) (λ c. each-all (c .before .loop .inv) (omega arith) (omega arith)))

@@ -1,0 +1,3 @@
+// The listing that the program prints.
+mod overlay;
+pub mod write;

@@ -1,0 +1,211 @@
+// The listing that the program prints: a run's, or a refusal's.
+ghost use mathlib.Core.Path.{_≡_};
+ghost use Prim.Native.Nat.{_*_, _-_, _≤_, _<_, min};
+ghost use lib.ListN.{getD};
+ghost use Rattle.config.specs.Limits.{maxListed, maxNodes, maxTerms};
+ghost use Rattle.listing.specs.Overlay.{Laid, Room, Written};
+ghost use Rattle.listing.specs.Listing.{each, linkLine, listing, log, proposal, radioLine, refusal, runLine, snapshot, termText};
+ghost use Rattle.listing.specs.Listing.{linkLineMost, listingMost, logMost, proposalMost, radioLineMost, refusalMost, runLineMost, snapshotMost, termMost};
+use super::overlay::put;
+use super::overlay::put_entry;
+use super::overlay::put_spaced;
+use config::limits::LOG_COUNTS;
+use config::limits::MAX_LISTED;
+use config::limits::MAX_NODES;
+use config::limits::MAX_TERMS;
+use config::limits::RECORD_SIZE;
+use config::limits::SNAPSHOT_SIZE;
+use metrics::summary::Summary;
+
+// The number at a place of a buffer, 0 past its end.
+fn number_at(s: &[u64], i: usize) -> u64
+    ensures { λ r. ⌜ r ≡ getD (now (s .entry)) i 0 ⌝ }
+{
+    if i < s.len() { s[i] } else { 0 }
+}
+
+// The byte at a place of a buffer, 0 past its end.
+fn byte_at(s: &[u8], i: usize) -> u64
+    ensures { λ r. ⌜ r ≡ getD (now (s .entry)) i 0 ⌝ }
+{
+    if i < s.len() { s[i] as u64 } else { 0 }
+}
+
+// The smaller of two numbers.
+fn smaller(a: u64, b: u64) -> u64
+    ensures { λ r. ⌜ r ≡ min a b ⌝ }
+{
+    if a < b { a } else { b }
+}
+
+// The slots from start to end, 0 where the end lies before the start.
+fn latency(start: u64, end: u64) -> u64
+    ensures { λ r. ⌜ r ≡ end - start ⌝ }
+{
+    if start <= end { end - start } else { 0 }
+}
+
+fn put_run_line(s: Summary, out: &mut [u8], at: usize) -> usize
+    requires { ⌜ Room at runLineMost ⌝ }
+    ensures { λ r. ⌜ Laid runLineMost (now (out .entry)) at (runLine s) (now (out .exit)) r ⌝ }
+{
+    let a = put_entry(b"nodes ", s.nodes, out, at);
+    let b = put_entry(b" rounds ", s.rounds, out, a);
+    let c = put_entry(b" slots ", s.slots, out, b);
+    let d = put_entry(b" ended ", s.ended, out, c);
+    put(b'\n', out, d)
+}
+
+fn put_radio_line(s: Summary, out: &mut [u8], at: usize) -> usize
+    requires { ⌜ Room at radioLineMost ⌝ }
+    ensures { λ r. ⌜ Laid radioLineMost (now (out .entry)) at (radioLine s) (now (out .exit)) r ⌝ }
+{
+    let a = put_entry(b"listen ", s.listen, out, at);
+    let b = put_entry(b" flood ", s.flood, out, a);
+    let c = put_entry(b" sleep ", s.sleep, out, b);
+    put(b'\n', out, c)
+}
+
+fn put_link_line(s: Summary, out: &mut [u8], at: usize) -> usize
+    requires { ⌜ Room at linkLineMost ⌝ }
+    ensures { λ r. ⌜ Laid linkLineMost (now (out .entry)) at (linkLine s) (now (out .exit)) r ⌝ }
+{
+    let a = put_entry(b"links ", s.attempts, out, at);
+    let b = put_spaced(s.successes, out, a);
+    let c = put_entry(b" floods ", s.flood_rounds, out, b);
+    let d = put_spaced(s.flood_nodes, out, c);
+    let e = put_spaced(s.covered, out, d);
+    let f = put_entry(b" recovery ", s.nacks, out, e);
+    let g = put_spaced(s.piggybacks, out, f);
+    put(b'\n', out, g)
+}
+
+// Record i.
+fn put_record(records: &[u64], i: usize, out: &mut [u8], at: usize) -> usize
+    requires { ⌜ (i < maxTerms) × Room at proposalMost ⌝ }
+    ensures { λ r. ⌜ Laid proposalMost (now (out .entry)) at (proposal (now (records .entry)) i) (now (out .exit)) r ⌝ }
+{
+    let id = number_at(records, RECORD_SIZE * i);
+    let start = number_at(records, RECORD_SIZE * i + 1);
+    let end = number_at(records, RECORD_SIZE * i + 2);
+    let a = put_entry(b"proposal ", id, out, at);
+    let b = put_spaced(start, out, a);
+    let c = put_spaced(end, out, b);
+    let d = put_spaced(latency(start, end), out, c);
+    put(b'\n', out, d)
+}
+
+// The first n records.
+fn put_records(n: u64, records: &[u64], out: &mut [u8], at: usize) -> usize
+    requires { ⌜ (n ≤ maxTerms) × Room at (maxTerms * proposalMost) ⌝ }
+    ensures { λ r. ⌜ Laid (maxTerms * proposalMost) (now (out .entry)) at (each (proposal (now (records .entry))) n) (now (out .exit)) r ⌝ }
+{
+    let mut next = at;
+    for i in 0..n as usize {
+        next = put_record(records, i, out, next);
+    }
+    next
+}
+
+// Snapshot i.
+fn put_snapshot(snapshots: &[u64], i: usize, out: &mut [u8], at: usize) -> usize
+    requires { ⌜ (i < maxListed) × Room at snapshotMost ⌝ }
+    ensures { λ r. ⌜ Laid snapshotMost (now (out .entry)) at (snapshot (now (snapshots .entry)) i) (now (out .exit)) r ⌝ }
+{
+    let slot = number_at(snapshots, SNAPSHOT_SIZE * i);
+    let progress = number_at(snapshots, SNAPSHOT_SIZE * i + 1);
+    let listening = number_at(snapshots, SNAPSHOT_SIZE * i + 2);
+    let flooding = number_at(snapshots, SNAPSHOT_SIZE * i + 3);
+    let sleeping = number_at(snapshots, SNAPSHOT_SIZE * i + 4);
+    let a = put_entry(b"snapshot ", slot, out, at);
+    let b = put_spaced(progress, out, a);
+    let c = put_spaced(listening, out, b);
+    let d = put_spaced(flooding, out, c);
+    let e = put_spaced(sleeping, out, d);
+    put(b'\n', out, e)
+}
+
+// The first n snapshots.
+fn put_snapshots(n: u64, snapshots: &[u64], out: &mut [u8], at: usize) -> usize
+    requires { ⌜ (n ≤ maxListed) × Room at (maxListed * snapshotMost) ⌝ }
+    ensures { λ r. ⌜ Laid (maxListed * snapshotMost) (now (out .entry)) at (each (snapshot (now (snapshots .entry))) n) (now (out .exit)) r ⌝ }
+{
+    let mut next = at;
+    for i in 0..n as usize {
+        next = put_snapshot(snapshots, i, out, next);
+    }
+    next
+}
+
+// Term k of node i's log.
+fn put_term(logs: &[u8], i: usize, k: usize, out: &mut [u8], at: usize) -> usize
+    requires { ⌜ (i < maxNodes) × (k < maxTerms) × Room at termMost ⌝ }
+    ensures { λ r. ⌜ Laid termMost (now (out .entry)) at (termText (now (logs .entry)) i k) (now (out .exit)) r ⌝ }
+{
+    let term = byte_at(logs, MAX_TERMS * i + k);
+    put_spaced(term, out, at)
+}
+
+// The first n terms of node i's log.
+fn put_terms(n: u64, logs: &[u8], i: usize, out: &mut [u8], at: usize) -> usize
+    requires { ⌜ (n ≤ maxTerms) × (i < maxNodes) × Room at (maxTerms * termMost) ⌝ }
+    ensures { λ r. ⌜ Laid (maxTerms * termMost) (now (out .entry)) at (each (termText (now (logs .entry)) i) n) (now (out .exit)) r ⌝ }
+{
+    let mut next = at;
+    for k in 0..n as usize {
+        next = put_term(logs, i, k, out, next);
+    }
+    next
+}
+
+// Node i's log.
+fn put_log(logs: &[u8], i: usize, out: &mut [u8], at: usize) -> usize
+    requires { ⌜ (i < maxNodes) × Room at logMost ⌝ }
+    ensures { λ r. ⌜ Laid logMost (now (out .entry)) at (log (now (logs .entry)) i) (now (out .exit)) r ⌝ }
+{
+    let a = put_entry(b"log ", i as u64, out, at);
+    let n = smaller(byte_at(logs, LOG_COUNTS + i), MAX_TERMS as u64);
+    let b = put_terms(n, logs, i, out, a);
+    put(b'\n', out, b)
+}
+
+// The logs of the first n nodes.
+fn put_logs(n: u64, logs: &[u8], out: &mut [u8], at: usize) -> usize
+    requires { ⌜ (n ≤ maxNodes) × Room at (maxNodes * logMost) ⌝ }
+    ensures { λ r. ⌜ Laid (maxNodes * logMost) (now (out .entry)) at (each (log (now (logs .entry))) n) (now (out .exit)) r ⌝ }
+{
+    let mut next = at;
+    for i in 0..n as usize {
+        next = put_log(logs, i, out, next);
+    }
+    next
+}
+
+// Lays a run's listing over the start of a buffer, and answers how many bytes it has.
+pub fn write_listing(
+    summary: Summary,
+    records: &[u64],
+    snapshots: &[u64],
+    logs: &[u8],
+    out: &mut [u8],
+) -> usize
+    ensures { λ r. ⌜ Written listingMost (listing summary (now (records .entry)) (now (snapshots .entry)) (now (logs .entry)))
+        (now (out .entry)) (now (out .exit)) r ⌝ }
+{
+    let a = put_run_line(summary, out, 0);
+    let b = put_radio_line(summary, out, a);
+    let c = put_link_line(summary, out, b);
+    let d = put_records(smaller(summary.records, MAX_TERMS as u64), records, out, c);
+    let fit = (snapshots.len() / SNAPSHOT_SIZE) as u64;
+    let stored = smaller(smaller(summary.snapshots, fit), MAX_LISTED as u64);
+    let e = put_snapshots(stored, snapshots, out, d);
+    put_logs(smaller(summary.nodes, MAX_NODES as u64), logs, out, e)
+}
+
+// Lays the refusal of a number over the start of a buffer, and answers how many bytes it has.
+pub fn write_refusal(number: u64, out: &mut [u8]) -> usize
+    ensures { λ r. ⌜ Written refusalMost (refusal number) (now (out .entry)) (now (out .exit)) r ⌝ }
+{
+    let next = put_entry(b"refused ", number, out, 0);
+    put(b'\n', out, next)
+}

@@ -1,0 +1,2 @@
+-- What is right for the crate `metrics`.
+pub mod Ratio

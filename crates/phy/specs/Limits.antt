@@ -1,0 +1,27 @@
+-- The limits of a flood, and the layouts of the tables lent to it.
+use Prim.Native.Nat.{ℕ, _*_, _^_}
+use Rattle.config.specs.Limits.{maxNodes, maxRepeats}
+
+-- the bits of a set of nodes
+abbrev pub setBits : ℕ
+setBits = 64
+
+-- the numbers of a packet
+abbrev pub packetSize : ℕ
+packetSize = 13
+
+-- the packets held: those of node i from packetSize times i on
+abbrev pub heldSize : ℕ
+heldSize = packetSize * maxNodes
+
+-- the queue of the flooding nodes: a place for each repeat
+abbrev pub queueSize : ℕ
+queueSize = maxRepeats
+
+-- A slot has no more attempts: each node tries no more nodes than a set has bits.
+abbrev pub slotAttempts : ℕ
+slotAttempts = setBits * maxNodes
+
+-- A run has fewer slots, so that its counters stay in a word.
+abbrev pub mostSlots : ℕ
+mostSlots = 2 ^ 40

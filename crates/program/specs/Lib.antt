@@ -1,0 +1,3 @@
+-- What the program answers, and document 01's starred runs.
+pub mod Printed
+pub mod StarredRuns

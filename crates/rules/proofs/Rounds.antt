@@ -1,0 +1,33 @@
+-- Bounds of a round. Assumes nothing.
+use Prim.Native.Nat.{ℕ, _+_, _*_, _≤_, _<_}
+use mathlib.Core.Path.{_≡_}
+use mathlib.Core.Bool.{true}
+use native.Mathlib.Nat.{mul-le-mul}
+use native.Mathlib.Omega.{arith}
+use lib.ListN.{length, length-append}
+use borrow.Author.Tests.{leb-true}
+use Rattle.network.proofs.Sets.{count-le}
+use Rattle.config.specs.Limits.{maxNodes, maxRepeats, maxRoundSlots}
+use Rattle.config.specs.declared.RoundSlots.{RoundSlots}
+use Rattle.phy.specs.declared.packet.Packet.{Packet}
+use Rattle.phy.specs.Slot.{Setup, Standing}
+use Rattle.phy.specs.Round.{lengthLimit, round, coverage}
+use Rattle.rules.specs.Questions.{slotsAllowed}
+use Rattle.rules.specs.Run.{Given, Running, runRound}
+
+-- a round has at most 4,096 slots
+pub limit-few : (slots : RoundSlots) (d repeats : ℕ) → slotsAllowed slots ≡ true → d < maxNodes → repeats ≤ maxRepeats → lengthLimit slots d repeats ≤ maxRoundSlots
+limit-few (RoundSlots.Of s) d repeats ok short few = leb-true s maxRoundSlots ok
+limit-few RoundSlots.Absent d repeats ok short few =
+    let most : (d + 2) * repeats ≤ 33 * 64 = mul-le-mul {n₁ = d + 2} {m₁ = repeats} {n₂ = 33} {m₂ = 64} (omega arith) (omega arith) in
+    omega (arith, most)
+
+-- no more nodes are covered than there are
+pub covered-few : (g : Setup) (limit initiator : ℕ) (packet : Packet) (s : Standing) → round g limit initiator packet s .covered ≤ g .nodes
+unfolding round coverage
+covered-few g limit initiator packet s = count-le (g .nodes) _
+
+-- a round more was run
+pub rounds-more : (g : Given) (k : ℕ) (r : Running) → length (runRound g k r .rounds) ≡ length (r .rounds) + 1
+unfolding runRound
+rounds-more g k r = length-append (r .rounds) _

@@ -1,0 +1,30 @@
+-- What the questions leave of a run.
+use Prim.Native.Nat.{ℕ, _≤_, _<_}
+use mathlib.Core.Path.{_≡_}
+use mathlib.Core.Bool.{true}
+use mathlib.Core.List.{List}
+use Rattle.config.specs.Limits.{maxNodes, maxTerms, maxRepeats}
+use Rattle.network.specs.Graph.{Checked}
+use Rattle.network.specs.Distance.{diameter}
+use Rattle.rules.specs.Questions.{slotsAllowed}
+use Rattle.rules.specs.Run.{Given}
+
+-- a graph of 2 to 32 nodes that passes the row check, with its diameter
+pub record Drawn (graph : List ℕ) (n d : ℕ) : Type 0 where
+  pub checked : Checked graph n
+  pub two : 2 ≤ n
+  pub few : n ≤ maxNodes
+  pub measured : d ≡ diameter graph n
+
+-- the run of such a graph, with a configuration that questions 5 to 9 let pass
+pub record Accepted (g : Given) : Type 0 where
+  pub checked : Checked (g .rows) (g .nodes)
+  pub two : 2 ≤ g .nodes
+  pub few : g .nodes ≤ maxNodes
+  pub measured : g .diameter ≡ diameter (g .rows) (g .nodes)
+  pub short : g .diameter < maxNodes
+  pub repeats-low : 1 ≤ g .repeats
+  pub repeats-high : g .repeats ≤ maxRepeats
+  pub slots : slotsAllowed (g .roundSlots) ≡ true
+  pub proposals : g .proposals ≤ maxTerms
+  pub interval : 1 ≤ g .interval

@@ -1,0 +1,119 @@
+-- What an entry answers, and the final contents of the lent buffers.
+use Prim.Native.Nat.{ℕ, zero, suc, _+_, _*_}
+use mathlib.Core.List.{List, [], _∷_, map}
+use mathlib.Core.Option.{Option, none, some}
+use lib.ListN.{length}
+use lib.Seq.{sets}
+use Rattle.config.specs.Limits.{maxTerms, logCounts}
+use Rattle.network.specs.Graph.{widened}
+use Rattle.network.specs.Questions.{nodesOf}
+use Rattle.network.specs.Topology.{topologyRows, topologyOf}
+use Rattle.network.specs.Distance.{diameter}
+use Rattle.random.specs.Reception.{heard}
+use Rattle.phy.specs.declared.node.Node.{Node}
+use Rattle.phy.specs.Slot.{sumOf}
+use Rattle.phy.specs.Snapshots.{snapshotsWith}
+use Rattle.protocol.specs.Paxos.{Entry, State}
+use Rattle.metrics.specs.declared.summary.Summary.{Summary}
+use Rattle.config.specs.declared.Config.{Config}
+use Rattle.rules.specs.declared.answer.Answer.{Answer}
+use Rattle.rules.specs.declared.answer.Answer.the-variants.{Ran, Refused}
+use Rattle.rules.specs.Questions.{rowsRefusal, topologyRefusal}
+use Rattle.pipeline.specs.Round.{Record, stateOf}
+use Rattle.rules.specs.Run.{Given, Running, Ended, run}
+
+-- the answer, and what the three buffers hold afterwards
+pub record Outcome : Type 0 where
+  pub answer : Answer
+  pub logs : List ℕ
+  pub records : List ℕ
+  pub snapshots : List ℕ
+
+-- The summary: nodes, rounds, slots, end; listen, flood, sleep; attempts, successes; flood rounds, flood nodes, covered; NACKs,
+-- piggybacks; records, and all snapshots that were taken.
+abbrev pub summaryOf : Given → Ended → Summary
+summaryOf g e =
+    let r : Running = e .running in
+    let rounds : ℕ = length (r .rounds) in
+    record {
+      nodes = g .nodes;
+      rounds = rounds;
+      slots = r .standing .slot;
+      ended = e .ended;
+      listen = sumOf (λ (v : Node). v .«slots_listen») (r .standing .nodes) (g .nodes);
+      flood = sumOf (λ (v : Node). v .«slots_flood») (r .standing .nodes) (g .nodes);
+      sleep = sumOf (λ (v : Node). v .«slots_sleep») (r .standing .nodes) (g .nodes);
+      attempts = r .standing .attempts;
+      successes = r .standing .successes;
+      «flood_rounds» = rounds;
+      «flood_nodes» = g .nodes * rounds;
+      covered = r .covered;
+      nacks = r .shared .nacks;
+      piggybacks = r .shared .piggybacks;
+      records = length (r .shared .records);
+      snapshots = length (r .standing .shots .taken);
+    }
+
+-- the terms of a log, in order
+abbrev pub terms : List Entry → List ℕ
+terms log = map (λ (e : Entry). e .term) log
+
+-- Logs: terms of node i from byte 64i, its count at 2,048 + i; every other byte stays.
+unfoldable pub logsWith : List ℕ → List State → ℕ → List ℕ
+logsWith old states zero = old
+logsWith old states (suc i) =
+    let log : List ℕ = terms (stateOf states i .log) in
+    sets (sets (logsWith old states i) (maxTerms * i) log) (logCounts + i) (length log ∷ [])
+
+-- records: id, start, end, one after the other
+unfoldable pub recordNumbers : List Record → List ℕ
+recordNumbers [] = []
+recordNumbers (r ∷ rs) = r .id ∷ r .start ∷ r .end ∷ recordNumbers rs
+
+-- What a run that is not refused gives. Places of the record buffer behind the records stay, and of the snapshots those that fit whole are
+-- stored.
+unfoldable pub ranWith : Given → List ℕ → List ℕ → List ℕ → Outcome
+ranWith g logs records snapshots =
+    let e : Ended = run g in
+    record {
+      answer = Ran (summaryOf g e);
+      logs = logsWith logs (e .running .shared .states) (g .nodes);
+      records = sets records 0 (recordNumbers (e .running .shared .records));
+      snapshots = snapshotsWith snapshots (e .running .standing .shots .taken);
+    }
+
+-- the run of a graph of n nodes with this diameter, where an attempt's outcome is that of its draw
+abbrev pub givenAs : List ℕ → ℕ → ℕ → Config → Given
+givenAs graph n d c =
+    record {
+      rows = graph;
+      nodes = n;
+      diameter = d;
+      repeats = c .«flood_repeats»;
+      roundSlots = c .«round_slots»;
+      proposals = c .«num_proposals»;
+      interval = c .«snapshot_interval»;
+      limit = c .«max_slots»;
+      heard = heard (c .«loss_rate») (c .seed);
+    }
+
+-- the run of n nodes with these rows
+abbrev pub givenOf : List ℕ → ℕ → Config → Given
+givenOf rows n c = let graph : List ℕ = widened rows n in givenAs graph n (diameter graph n) c
+
+-- a refusal leaves every buffer as it was
+abbrev pub outcomeOf : Option ℕ → Given → List ℕ → List ℕ → List ℕ → Outcome
+outcomeOf none g logs records snapshots = ranWith g logs records snapshots
+outcomeOf (some k) g logs records snapshots = record { answer = Refused k; logs = logs; records = records; snapshots = snapshots }
+
+-- run of rows
+unfoldable pub runOfRows : List ℕ → ℕ → Config → List ℕ → List ℕ → List ℕ → Outcome
+runOfRows rows n c logs records snapshots =
+    outcomeOf (rowsRefusal rows n c (length logs) (length records)) (givenOf rows n c) logs records snapshots
+
+-- run of a topology: the run of its rows, after its own questions
+unfoldable pub runOfTopology : ℕ → ℕ → ℕ → Config → List ℕ → List ℕ → List ℕ → Outcome
+runOfTopology topology first second c logs records snapshots =
+    let n : ℕ = nodesOf topology first second in
+    outcomeOf (topologyRefusal topology first second c (length logs) (length records))
+    (givenOf (topologyRows (topologyOf topology second) n) n c) logs records snapshots

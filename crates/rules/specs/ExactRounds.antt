@@ -1,0 +1,141 @@
+-- Demand 3: what an accepted run is in which no reception is lost. P are the proposals, n the nodes, d the diameter and r the repeats;
+-- e is the greatest distance from the node that starts a round.
+use Prim.Native.Nat.{ℕ, zero, suc, _+_, _-_, _*_, _/_, _≤_, _<_}
+use mathlib.Core.List.{List}
+use mathlib.Core.Option.{some}
+use mathlib.Core.Path.{_≡_}
+use lib.ListN.{length, getD, getElem?}
+use Rattle.network.specs.Distance.{links, distance, eccentricity, Joined}
+use Rattle.network.specs.Questions.{nodesOf}
+use Rattle.random.specs.Table.{tabulate}
+use Rattle.network.specs.Topology.{topologyRows, topologyOf}
+use Rattle.phy.specs.declared.node.Node.{Node}
+use Rattle.config.specs.declared.RoundSlots.{RoundSlots}
+use Rattle.phy.specs.Slot.{at}
+use Rattle.metrics.specs.declared.summary.Summary.{Summary}
+use Rattle.config.specs.declared.Config.{Config}
+use Rattle.rules.specs.declared.answer.Answer.the-variants.{Ran}
+use Rattle.pipeline.specs.Round.{stateOf, initiatorOf}
+use Rattle.rules.specs.Run.{Given, Past, Ended, lengthOf, run}
+use Rattle.rules.specs.Entries.{Outcome, terms, givenOf, runOfRows, runOfTopology}
+
+-- ---- the sums that the rounds come to
+
+-- f 0 + f 1 + .. + f (n - 1)
+unfoldable pub sum : ℕ → (ℕ → ℕ) → ℕ
+sum zero f = 0
+sum (suc n) f = sum n f + f n
+
+-- the distance of node j from the node that starts round k, and the greatest such distance e
+abbrev pub distanceIn : Given → ℕ → ℕ → ℕ
+distanceIn g k j = links (distance (g .rows) (g .nodes) (initiatorOf (g .nodes) k) j)
+
+abbrev pub farthest : Given → ℕ → ℕ
+farthest g k = eccentricity (g .rows) (g .nodes) (initiatorOf (g .nodes) k)
+
+-- round k lasts e + r slots
+abbrev pub slotsIn : Given → ℕ → ℕ
+slotsIn g k = farthest g k + g .repeats
+
+-- its first slot: the summed length of the rounds before it
+abbrev pub firstSlot : Given → ℕ → ℕ
+firstSlot g k = sum k (slotsIn g)
+
+-- P + floor(n/2)
+abbrev pub roundsOf : Given → ℕ
+roundsOf g = g .proposals + g .nodes / 2
+
+-- ---- one round
+
+-- node j's count grew by m in a round
+abbrev pub Grew : (Node → ℕ) → Past → ℕ → ℕ → Type 0
+Grew f p j m = f (at (p .flooded .after .nodes) j) ≡ f (at (p .before .nodes) j) + m
+
+-- Round k lasts e + r slots, and a node at distance D from its initiator listens D, floods r and sleeps e - D of them.
+pub record ExactRound (g : Given) (k : ℕ) (p : Past) : Type 0 where
+  pub initiator : p .initiator ≡ initiatorOf (g .nodes) k
+  pub length : lengthOf p ≡ farthest g k + g .repeats
+  pub listens : (j : ℕ) → j < g .nodes → Grew (λ (v : Node). v .«slots_listen») p j (distanceIn g k j)
+  pub floods : (j : ℕ) → j < g .nodes → Grew (λ (v : Node). v .«slots_flood») p j (g .repeats)
+  pub sleeps : (j : ℕ) → j < g .nodes → Grew (λ (v : Node). v .«slots_sleep») p j (farthest g k - distanceIn g k j)
+
+-- ---- records and logs
+
+-- Record t in the buffer: its id is t, it starts at the first slot of round t and ends at that of round t + floor(n/2). So its latency is
+-- the summed length of rounds t to t + floor(n/2) - 1.
+pub record ExactRecord (g : Given) (records : List ℕ) (t : ℕ) : Type 0 where
+  pub id : getD records (3 * t) 0 ≡ t
+  pub start : getD records (3 * t + 1) 0 ≡ firstSlot g t
+  pub end : getD records (3 * t + 2) 0 ≡ firstSlot g (t + g .nodes / 2)
+  pub latency : getD records (3 * t + 2) 0 - getD records (3 * t + 1) 0 ≡ sum (g .nodes / 2) (λ (i : ℕ). slotsIn g (t + i))
+
+-- Node j's log after the run holds exactly the terms 0 to P - 1, in order; in the buffer its count is P and its terms are those.
+pub record ExactLog (g : Given) (e : Ended) (logs : List ℕ) (j : ℕ) : Type 0 where
+  pub held : terms (stateOf (e .running .shared .states) j .log) ≡ tabulate (g .proposals) (λ (t : ℕ). t)
+  pub count : getD logs (2048 + j) 0 ≡ g .proposals
+  pub term-at : (t : ℕ) → t < g .proposals → getD logs (64 * j + t) 0 ≡ t
+
+-- ---- the run
+
+-- The run e of g, its summary s, and the final log and record buffers.
+pub record ExactRounds (g : Given) (e : Ended) (s : Summary) (logs records : List ℕ) : Type 0 where
+  -- it stops by itself after exactly P + floor(n/2) rounds
+  pub ended : s .ended ≡ 1
+  pub rounds : s .rounds ≡ roundsOf g
+  -- these are its rounds
+  pub all : length (e .running .rounds) ≡ roundsOf g
+  pub each : (k : ℕ) (p : Past) → getElem? (e .running .rounds) k ≡ some p → ExactRound g k p
+  -- its slots are the sum over its rounds; listen, flood and sleep are the sums over its rounds and nodes
+  pub slots : s .slots ≡ sum (roundsOf g) (slotsIn g)
+  pub listen : s .listen ≡ sum (roundsOf g) (λ (k : ℕ). sum (g .nodes) (λ (j : ℕ). distanceIn g k j))
+  pub flood : s .flood ≡ sum (roundsOf g) (λ (k : ℕ). sum (g .nodes) (λ (j : ℕ). g .repeats))
+  pub sleep : s .sleep ≡ sum (roundsOf g) (λ (k : ℕ). sum (g .nodes) (λ (j : ℕ). farthest g k - distanceIn g k j))
+  -- exactly P records, in order of id
+  pub proposals : s .records ≡ g .proposals
+  pub recorded : e .running .shared .records ≡ tabulate (g .proposals) (λ (t : ℕ). record { id = t; start = firstSlot g t; end = firstSlot g (t + g .nodes / 2) })
+  pub record-at : (t : ℕ) → t < g .proposals → ExactRecord g records t
+  -- every log
+  pub log-of : (j : ℕ) → j < g .nodes → ExactLog g e logs j
+
+-- ---- the premises
+
+-- a run is asked for by rows, or by a topology with its two numbers
+pub data Asked : Type 0 where
+  ofRows : List ℕ → ℕ → Asked
+  ofTopology : ℕ → ℕ → ℕ → Asked
+
+abbrev pub givenFor : Asked → Config → Given
+givenFor (ofRows rows n) c = givenOf rows n c
+givenFor (ofTopology topology first second) c =
+    givenOf (topologyRows (topologyOf topology second) (nodesOf topology first second)) (nodesOf topology first second) c
+
+abbrev pub outcomeFor : Asked → Config → List ℕ → List ℕ → List ℕ → Outcome
+outcomeFor (ofRows rows n) c logs records snapshots = runOfRows rows n c logs records snapshots
+outcomeFor (ofTopology topology first second) c logs records snapshots = runOfTopology topology first second c logs records snapshots
+
+-- `round_slots` is absent or at least m
+abbrev pub AbsentOrAtLeast : ℕ → RoundSlots → Type 0
+AbsentOrAtLeast m RoundSlots.Absent = Unit {0}
+AbsentOrAtLeast m (RoundSlots.Of slots) = m ≤ slots
+
+-- What holds of the configuration: paths of links join all nodes, P is at least 1, `round_slots` is absent or at least d + r, and the slot
+-- limit is at least (P + floor(n/2)) * (d + r).
+pub record Suited (g : Given) : Type 0 where
+  pub joined : Joined (g .rows) (g .nodes)
+  pub proposes : 1 ≤ g .proposals
+  pub room : AbsentOrAtLeast (g .diameter + g .repeats) (g .roundSlots)
+  pub limit : roundsOf g * (g .diameter + g .repeats) ≤ g .limit
+
+-- The run is accepted with the summary s, each of its attempts succeeds, and its configuration is suited.
+pub record NoneLost (q : Asked) (c : Config) (logs records snapshots : List ℕ) (s : Summary) : Type 0 where
+  pub accepted : outcomeFor q c logs records snapshots .answer ≡ Ran s
+  pub received : s .attempts ≡ s .successes
+  pub suited : Suited (givenFor q c)
+
+-- Demand 3, for a run of rows and of a topology, whatever the seed and the loss rate.
+abbrev pub Demand3 : Type 0
+Demand3 =
+    (q : Asked) (c : Config) (logs records snapshots : List ℕ) (s : Summary) →
+    NoneLost q c logs records snapshots s →
+    ExactRounds (givenFor q c) (run (givenFor q c)) s
+    (outcomeFor q c logs records snapshots .logs) (outcomeFor q c logs records snapshots .records)

@@ -1,0 +1,17 @@
+-- What is right for a run.
+--     Run          the rounds, the four ends and the run
+--     Questions    the questions put to an input
+--     Accepted     what the questions leave of a run
+--     Entries      what an entry answers, and what it leaves in the lent buffers
+--     Answers      what the code's answers say
+--     ExactRounds  demand 3
+--     NothingLost  when a run has lost nothing
+--     Bounds       bounds on the counts of every accepted run
+pub mod Run
+pub mod Questions
+pub mod Accepted
+pub mod Entries
+pub mod Answers
+pub mod ExactRounds
+pub mod NothingLost
+pub mod Bounds

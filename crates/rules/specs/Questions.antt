@@ -1,0 +1,47 @@
+-- The questions put to an input (document 01), each with its number; the first "no" gives its number.
+use Prim.Native.Nat.{ℕ}
+use mathlib.Core.Bool.{Bool, true, false, _&&_}
+use mathlib.Core.List.{List, [], _∷_, _++_}
+use mathlib.Core.Option.{Option}
+use lib.IntN.{pos}
+use lib.Dec.{leb}
+use lib.Ieee as Ieee
+use lib.Ieee.{Float, fin}
+use Rattle.config.specs.Limits.{maxTerms, maxRepeats, maxRoundSlots, logSize, recordsSize}
+use Rattle.network.specs.Questions.{within, firstNo, rowsQuestions, topologyQuestions}
+use Rattle.config.specs.declared.RoundSlots.{RoundSlots}
+use Rattle.config.specs.declared.Config.{Config}
+
+-- 6: `round_slots` absent or 0 to 4,096
+abbrev pub slotsAllowed : RoundSlots → Bool
+slotsAllowed RoundSlots.Absent = true
+slotsAllowed (RoundSlots.Of slots) = leb slots maxRoundSlots
+
+-- 7: loss rate at least 0 and below 1; a NaN is neither, and minus zero passes
+unfoldable pub rateAllowed : Float → Bool
+rateAllowed rate = Ieee.le (fin false 0 (pos 0)) rate && Ieee.lt rate (fin false 1 (pos 0))
+
+-- 5 to 9, of the configuration
+abbrev pub configQuestions : Config → List (Bool × ℕ)
+configQuestions c =
+    (within 1 maxRepeats (c .«flood_repeats»), 5)
+    ∷ (slotsAllowed (c .«round_slots»), 6)
+    ∷ (rateAllowed (c .«loss_rate»), 7)
+    ∷ (leb (c .«num_proposals») maxTerms, 8)
+    ∷ (leb 1 (c .«snapshot_interval»), 9)
+    ∷ []
+
+-- 10, for log and record buffers of these lengths
+abbrev pub bufferQuestions : ℕ → ℕ → List (Bool × ℕ)
+bufferQuestions logs records = (leb logSize logs && leb recordsSize records, 10) ∷ []
+
+-- 5 to 10
+abbrev pub runQuestions : Config → ℕ → ℕ → List (Bool × ℕ)
+runQuestions c logs records = configQuestions c ++ bufferQuestions logs records
+
+-- the refusal of a run of rows, and of a run of a topology
+unfoldable pub rowsRefusal : List ℕ → ℕ → Config → ℕ → ℕ → Option ℕ
+rowsRefusal rows n c logs records = firstNo (rowsQuestions rows n ++ runQuestions c logs records)
+
+unfoldable pub topologyRefusal : ℕ → ℕ → ℕ → Config → ℕ → ℕ → Option ℕ
+topologyRefusal topology first second c logs records = firstNo (topologyQuestions topology first second ++ runQuestions c logs records)

@@ -1,9 +1,0 @@
--- Lemmas that several proofs of the crate use.
-pub mod Chain
-pub mod Fields
-pub mod Front
-pub mod Long
-pub mod Numerals
-pub mod Overlays
-pub mod Printed
-pub mod Spelling
