@@ -14,7 +14,7 @@ ghost use Rattle.capi.specs.Capi.{summarySize, slotsFrom, configFrom, su
 pub const SUMMARY_SIZE: usize = 16;
 
 // Round slots, or none where `given` is 0.
-fn slots_of(given: u64, slots: u64) -> RoundSlots
+fn slots_from(given: u64, slots: u64) -> RoundSlots
     ensures { λ r. ⌜ r ≡ slotsFrom given slots ⌝ }
 {
     if given == 0 {
@@ -24,7 +24,7 @@ fn slots_of(given: u64, slots: u64) -> RoundSlots
     }
 }
 
-pub fn config_of(
+pub fn config_from(
     repeats: u64,
     given: u64,
     round_slots: u64,
@@ -38,7 +38,7 @@ pub fn config_of(
 {
     Config {
         flood_repeats: repeats,
-        round_slots: slots_of(given, round_slots),
+        round_slots: slots_from(given, round_slots),
         loss_rate: loss,
         seed,
         num_proposals: proposals,

@@ -3,7 +3,7 @@
 mod convert;
 
 use convert::SUMMARY_SIZE;
-use convert::config_of;
+use convert::config_from;
 use convert::write_answer;
 use metrics::ratio::ratio;
 use metrics::ratios::Ratio;
@@ -130,7 +130,7 @@ pub extern "C" fn ctsim_run_topology(
     if summary.len() < SUMMARY_SIZE {
         return SHORT;
     }
-    let config = config_of(
+    let config = config_from(
         repeats,
         given,
         round_slots,
@@ -171,7 +171,7 @@ pub extern "C" fn ctsim_run_rows(
     if summary.len() < SUMMARY_SIZE {
         return SHORT;
     }
-    let config = config_of(
+    let config = config_from(
         repeats,
         given,
         round_slots,

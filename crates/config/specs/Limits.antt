@@ -1,6 +1,10 @@
 -- The limits of the rules and the layouts of the lent buffers, each by its name.
 use Prim.Native.Nat.{ℕ, _+_, _*_}
 
+-- how many bits a word has: how many nodes or terms a set in a word can tell apart
+abbrev pub wordBits : ℕ
+wordBits = 64
+
 -- the most nodes of a graph
 abbrev pub maxNodes : ℕ
 maxNodes = 32
@@ -48,3 +52,6 @@ logSize = logCounts + maxNodes
 -- the most snapshots that the program lists
 abbrev pub maxListed : ℕ
 maxListed = 1000
+
+abbrev pub listedSize : ℕ
+listedSize = snapshotSize * maxListed

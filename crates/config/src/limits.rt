@@ -1,5 +1,8 @@
 // The limits of the rules and the layouts of the lent buffers, each by its name.
 
+// How many bits a word has: how many nodes or terms a set in a word can tell apart.
+pub const WORD_BITS: usize = 64;
+
 // The most nodes of a graph.
 pub const MAX_NODES: usize = 32;
 
@@ -34,3 +37,5 @@ pub const LOG_SIZE: usize = 2080;
 
 // The most snapshots that the program lists.
 pub const MAX_LISTED: usize = 1000;
+
+pub const LISTED_SIZE: usize = SNAPSHOT_SIZE * MAX_LISTED;

@@ -1,15 +1,13 @@
-// The program: reads one line, and writes what `sim` answers to it.
+// The program: reads one line, and writes what `program` answers to it.
 use libc::STDIN_FILENO;
 use libc::STDOUT_FILENO;
+use listing::write::LISTING_SIZE;
 ghost use Prim.Native.Nat.{_≤_};
 ghost use lib.ListN.{length};
 
 // How much is read. A readable line is far shorter, so a line that is longer is unreadable whatever
 // follows.
 const INPUT: usize = 4096;
-
-// No listing has more than 165,403 bytes.
-const OUTPUT: usize = 166000;
 
 // Whether a byte is a newline.
 fn has_newline(s: &[u8]) -> bool {
@@ -52,7 +50,7 @@ fn read_input(buf: &mut [u8]) -> usize
 fn main() {
     let mut input = [0u8; INPUT];
     let n = read_input(&mut input);
-    let mut out = [0u8; OUTPUT];
+    let mut out = [0u8; LISTING_SIZE];
     let size = program::answer(&input[..n], &mut out);
     io::write_all(STDOUT_FILENO, &out[..size]);
 }

@@ -1,9 +1,10 @@
 // Runs document 01's edges that no theorem shows and no line of `replay` can ask for: buffers one
-// short, exactly full and longer than needed, ratios at their boundaries, and inputs that are no line. Places of a buffer hold a mark beforehand; how many still hold it is
-// printed as kept.
+// short, exactly full and longer than needed, ratios at their boundaries, and inputs that are no
+// line. Places of a buffer hold a mark beforehand; how many still hold it is printed as kept.
 mod marks;
 mod runs;
 
+use listing::write::LISTING_SIZE;
 use marks::put;
 use marks::put_end;
 use marks::put_number;
@@ -63,7 +64,7 @@ fn refused_ratios() {
 
 // The program's answer to a line.
 fn show_line(name: &[u8], line: &[u8]) {
-    let mut out = [0u8; 166000];
+    let mut out = [0u8; LISTING_SIZE];
     let n = program::answer(line, &mut out);
     put(name);
     put_end();

@@ -6,6 +6,8 @@ use super::marks::put_end;
 use super::marks::put_number;
 use config::Config;
 use config::RoundSlots;
+use config::limits::LOG_SIZE;
+use config::limits::RECORDS_SIZE;
 use metrics::summary::Summary;
 use rules::answer::Answer;
 use sim::entries::run_topology;
@@ -23,7 +25,7 @@ fn configured(slots: RoundSlots) -> Config {
     }
 }
 
-fn printed() -> Config {
+fn printed_config() -> Config {
     configured(RoundSlots::Absent)
 }
 
@@ -32,7 +34,7 @@ fn with_slots(n: u64) -> Config {
 }
 
 fn with_interval(n: u64) -> Config {
-    let mut c = printed();
+    let mut c = printed_config();
     c.snapshot_interval = n;
     c
 }
@@ -71,8 +73,8 @@ fn put_kept(logs: &[u8], records: &[u64], snapshots: &[u64]) {
 
 // Runs a topology with buffers of exactly what is asked for, and three snapshots' room.
 fn show(name: &[u8], topology: u64, first: u64, second: u64, config: Config) {
-    let mut logs = [77u8; 2080];
-    let mut records = [77u64; 192];
+    let mut logs = [77u8; LOG_SIZE];
+    let mut records = [77u64; RECORDS_SIZE];
     let mut snapshots = [77u64; 15];
     let a = run_topology(
         topology,
@@ -98,9 +100,9 @@ fn ends_by_index() {
 
 // Refused runs keep every mark.
 fn refusals() {
-    show(b"topology 0:", 0, 3, 0, printed());
-    show(b"one node:", 2, 1, 0, printed());
-    show(b"line, second number 1:", 2, 3, 1, printed());
+    show(b"topology 0:", 0, 3, 0, printed_config());
+    show(b"one node:", 2, 1, 0, printed_config());
+    show(b"line, second number 1:", 2, 3, 1, printed_config());
     show(b"round slots 4097:", 2, 3, 0, with_slots(4097));
     show(b"interval 0:", 2, 3, 0, with_interval(0));
 }
@@ -115,17 +117,27 @@ fn show_buffers(name: &[u8], logs: &mut [u8], records: &mut [u64], config: Confi
 }
 
 fn short_buffers() {
-    let mut logs = [77u8; 2079];
-    let mut enough = [77u64; 192];
-    show_buffers(b"logs one short:", &mut logs, &mut enough, printed());
-    let mut room = [77u8; 2080];
-    let mut records = [77u64; 191];
-    show_buffers(b"records one short:", &mut room, &mut records, printed());
+    let mut logs = [77u8; LOG_SIZE - 1];
+    let mut enough = [77u64; RECORDS_SIZE];
+    show_buffers(b"logs one short:", &mut logs, &mut enough, printed_config());
+    let mut room = [77u8; LOG_SIZE];
+    let mut records = [77u64; RECORDS_SIZE - 1];
+    show_buffers(
+        b"records one short:",
+        &mut room,
+        &mut records,
+        printed_config(),
+    );
     let mut no_logs = [77u8; 0];
     let mut no_records = [77u64; 0];
-    show_buffers(b"no place:", &mut no_logs, &mut no_records, printed());
-    let mut few = [77u8; 2079];
-    let mut some = [77u64; 191];
+    show_buffers(
+        b"no place:",
+        &mut no_logs,
+        &mut no_records,
+        printed_config(),
+    );
+    let mut few = [77u8; LOG_SIZE - 1];
+    let mut some = [77u64; RECORDS_SIZE - 1];
     show_buffers(
         b"one short, interval 0:",
         &mut few,
@@ -135,22 +147,30 @@ fn short_buffers() {
 }
 
 fn long_buffers() {
-    let mut logs = [77u8; 2080];
-    let mut records = [77u64; 192];
-    show_buffers(b"exactly full:", &mut logs, &mut records, printed());
-    let mut more = [77u8; 2100];
-    let mut many = [77u64; 200];
-    show_buffers(b"longer:", &mut more, &mut many, printed());
+    let mut logs = [77u8; LOG_SIZE];
+    let mut records = [77u64; RECORDS_SIZE];
+    show_buffers(b"exactly full:", &mut logs, &mut records, printed_config());
+    let mut more = [77u8; LOG_SIZE + 20];
+    let mut many = [77u64; RECORDS_SIZE + 8];
+    show_buffers(b"longer:", &mut more, &mut many, printed_config());
 }
 
 // Document 01's run with a snapshot buffer of this length.
 fn show_snapshots(snapshots: &mut [u64]) {
-    let mut logs = [77u8; 2080];
-    let mut records = [77u64; 192];
+    let mut logs = [77u8; LOG_SIZE];
+    let mut records = [77u64; RECORDS_SIZE];
     put(b"snapshots in");
     put_number(snapshots.len() as u64);
     put(b" numbers:");
-    let a = run_topology(2, 3, 0, printed(), &mut logs, &mut records, snapshots);
+    let a = run_topology(
+        2,
+        3,
+        0,
+        printed_config(),
+        &mut logs,
+        &mut records,
+        snapshots,
+    );
     put_answer(a);
     put_kept(&logs, &records, snapshots);
 }

@@ -1,7 +1,7 @@
 -- Loss rates by their bits. Assumes nothing.
 use Prim.Native.Nat.{ℕ, _%_, _^_, _≤_, _<_}
 use mathlib.Core.Path.{_≡_, refl, sym, _∙_}
-use mathlib.Core.Bool.{true, false, not, true≢false}
+use mathlib.Core.Bool.{true, not, true≢false}
 use borrow.Author.Tests.{lt-ltb, le-ltb}
 use lib.Dec.{T}
 use lib.Ieee.{Float, nan, inf, fin, binary64, div, ofBits, nanBits, isNan}

@@ -19,8 +19,8 @@ unfoldable pub spelled : ℕ → List ℕ
 spelled n = spelledIn (suc n) n
 
 -- a word with a number behind it
-unfoldable pub entry : String → ℕ → List ℕ
-entry word n = ascii word ++ spelled n
+unfoldable pub labelled : String → ℕ → List ℕ
+labelled word n = ascii word ++ spelled n
 
 -- what f gives for 0 to n - 1, one after the other
 unfoldable pub each : (ℕ → List ℕ) → ℕ → List ℕ
@@ -30,52 +30,52 @@ each f (suc n) = each f n ++ f n
 -- the run: how many nodes, rounds and slots, and its end number
 unfoldable pub runLine : Summary → List ℕ
 runLine s =
-    entry "nodes " (s .nodes) ++ entry " rounds " (s .rounds) ++ entry " slots " (s .slots) ++ entry " ended " (s .ended) ++ ascii "\n"
+    labelled "nodes " (s .nodes) ++ labelled " rounds " (s .rounds) ++ labelled " slots " (s .slots) ++ labelled " ended " (s .ended) ++ ascii "\n"
 
 -- the slots of all nodes
 unfoldable pub radioLine : Summary → List ℕ
-radioLine s = entry "listen " (s .listen) ++ entry " flood " (s .flood) ++ entry " sleep " (s .sleep) ++ ascii "\n"
+radioLine s = labelled "listen " (s .listen) ++ labelled " flood " (s .flood) ++ labelled " sleep " (s .sleep) ++ ascii "\n"
 
 -- links: attempts, successes; floods: rounds, nodes, covered; recovery: NACKs, piggybacks
 unfoldable pub linkLine : Summary → List ℕ
 linkLine s =
-    entry "links " (s .attempts) ++ entry " " (s .successes)
-    ++ entry " floods " (s .«flood_rounds») ++ entry " " (s .«flood_nodes») ++ entry " " (s .covered)
-    ++ entry " recovery " (s .nacks) ++ entry " " (s .piggybacks) ++ ascii "\n"
+    labelled "links " (s .attempts) ++ labelled " " (s .successes)
+    ++ labelled " floods " (s .«flood_rounds») ++ labelled " " (s .«flood_nodes») ++ labelled " " (s .covered)
+    ++ labelled " recovery " (s .nacks) ++ labelled " " (s .piggybacks) ++ ascii "\n"
 
 -- record i of the buffer: id, start, end, latency
-unfoldable pub proposal : List ℕ → ℕ → List ℕ
-proposal records i =
+unfoldable pub proposalLine : List ℕ → ℕ → List ℕ
+proposalLine records i =
     let start = getD records (recordSize * i + 1) 0 in
     let end = getD records (recordSize * i + 2) 0 in
-    entry "proposal " (getD records (recordSize * i) 0) ++ entry " " start ++ entry " " end ++ entry " " (end - start) ++ ascii "\n"
+    labelled "proposal " (getD records (recordSize * i) 0) ++ labelled " " start ++ labelled " " end ++ labelled " " (end - start) ++ ascii "\n"
 
 -- snapshot i of the buffer: slot, progress, listening, flooding, sleeping
-unfoldable pub snapshot : List ℕ → ℕ → List ℕ
-snapshot snapshots i =
-    entry "snapshot " (getD snapshots (snapshotSize * i) 0) ++ entry " " (getD snapshots (snapshotSize * i + 1) 0) ++ entry " " (getD snapshots (snapshotSize * i + 2) 0)
-    ++ entry " " (getD snapshots (snapshotSize * i + 3) 0) ++ entry " " (getD snapshots (snapshotSize * i + 4) 0) ++ ascii "\n"
+unfoldable pub snapshotLine : List ℕ → ℕ → List ℕ
+snapshotLine snapshots i =
+    labelled "snapshot " (getD snapshots (snapshotSize * i) 0) ++ labelled " " (getD snapshots (snapshotSize * i + 1) 0) ++ labelled " " (getD snapshots (snapshotSize * i + 2) 0)
+    ++ labelled " " (getD snapshots (snapshotSize * i + 3) 0) ++ labelled " " (getD snapshots (snapshotSize * i + 4) 0) ++ ascii "\n"
 
 -- term k of node i's log
 unfoldable pub termText : List ℕ → ℕ → ℕ → List ℕ
-termText logs i k = entry " " (getD logs (maxTerms * i + k) 0)
+termText logs i k = labelled " " (getD logs (maxTerms * i + k) 0)
 
 -- node i's log: its number, and its terms
-unfoldable pub log : List ℕ → ℕ → List ℕ
-log logs i = entry "log " i ++ each (termText logs i) (min (getD logs (logCounts + i) 0) maxTerms) ++ ascii "\n"
+unfoldable pub logLine : List ℕ → ℕ → List ℕ
+logLine logs i = labelled "log " i ++ each (termText logs i) (min (getD logs (logCounts + i) 0) maxTerms) ++ ascii "\n"
 
 -- The listing: three lines of totals, the records, the stored snapshots and the logs. At most 64 records, 1,000 snapshots and 32 logs of
 -- 64 terms are listed, as many as a run has. A snapshot is stored where it fits whole. A place past a buffer's end reads as 0.
 unfoldable pub listing : Summary → List ℕ → List ℕ → List ℕ → List ℕ
 listing s records snapshots logs =
     runLine s ++ radioLine s ++ linkLine s
-    ++ each (proposal records) (min (s .records) maxTerms)
-    ++ each (snapshot snapshots) (min (min (s .snapshots) (length snapshots / snapshotSize)) maxListed)
-    ++ each (log logs) (min (s .nodes) maxNodes)
+    ++ each (proposalLine records) (min (s .records) maxTerms)
+    ++ each (snapshotLine snapshots) (min (min (s .snapshots) (length snapshots / snapshotSize)) maxListed)
+    ++ each (logLine logs) (min (s .nodes) maxNodes)
 
 -- the refusal of a number
 unfoldable pub refusal : ℕ → List ℕ
-refusal n = entry "refused " n ++ ascii "\n"
+refusal n = labelled "refused " n ++ ascii "\n"
 
 -- How many bytes each part of a listing has at most: a number below 2^64 and a word have so many, and the parts follow.
 abbrev pub numberMost : ℕ
@@ -84,36 +84,36 @@ numberMost = 20
 abbrev pub wordMost : ℕ
 wordMost = 10
 
-abbrev pub entryMost : ℕ
-entryMost = wordMost + numberMost
+abbrev pub labelledMost : ℕ
+labelledMost = wordMost + numberMost
 
 -- a space and a number
 abbrev pub spacedMost : ℕ
 spacedMost = 1 + numberMost
 
 abbrev pub runLineMost : ℕ
-runLineMost = 4 * entryMost + 1
+runLineMost = 4 * labelledMost + 1
 
 abbrev pub radioLineMost : ℕ
-radioLineMost = 3 * entryMost + 1
+radioLineMost = 3 * labelledMost + 1
 
 abbrev pub linkLineMost : ℕ
-linkLineMost = 3 * entryMost + 4 * spacedMost + 1
+linkLineMost = 3 * labelledMost + 4 * spacedMost + 1
 
-abbrev pub proposalMost : ℕ
-proposalMost = entryMost + 3 * spacedMost + 1
+abbrev pub proposalLineMost : ℕ
+proposalLineMost = labelledMost + 3 * spacedMost + 1
 
-abbrev pub snapshotMost : ℕ
-snapshotMost = entryMost + 4 * spacedMost + 1
+abbrev pub snapshotLineMost : ℕ
+snapshotLineMost = labelledMost + 4 * spacedMost + 1
 
 abbrev pub termMost : ℕ
 termMost = spacedMost
 
-abbrev pub logMost : ℕ
-logMost = entryMost + maxTerms * termMost + 1
+abbrev pub logLineMost : ℕ
+logLineMost = labelledMost + maxTerms * termMost + 1
 
 abbrev pub listingMost : ℕ
-listingMost = runLineMost + radioLineMost + linkLineMost + maxTerms * proposalMost + maxListed * snapshotMost + maxNodes * logMost
+listingMost = runLineMost + radioLineMost + linkLineMost + maxTerms * proposalLineMost + maxListed * snapshotLineMost + maxNodes * logLineMost
 
 abbrev pub refusalMost : ℕ
-refusalMost = entryMost + 1
+refusalMost = labelledMost + 1

@@ -4,7 +4,7 @@ ghost use mathlib.Core.List.{[], _∷_, _++_};
 ghost use Prim.Native.Nat.{_≤_};
 ghost use lib.ListN.{length};
 ghost use Rattle.listing.specs.Overlay.{Laid, Room};
-ghost use Rattle.listing.specs.Listing.{entryMost, numberMost, spacedMost, spelled, wordMost};
+ghost use Rattle.listing.specs.Listing.{labelledMost, numberMost, spacedMost, spelled, wordMost};
 
 // One byte.
 pub fn put(byte: u8, out: &mut [u8], at: usize) -> usize
@@ -42,9 +42,9 @@ pub fn put_number(n: u64, out: &mut [u8], at: usize) -> usize
 }
 
 // A word with a number behind it.
-pub fn put_entry(word: &[u8], n: u64, out: &mut [u8], at: usize) -> usize
-    requires { ⌜ (length (now word) ≤ wordMost) × Room at entryMost ⌝ }
-    ensures { λ r. ⌜ Laid entryMost (now (out .entry)) at (now (word .entry) ++ spelled n) (now (out .exit)) r ⌝ }
+pub fn put_labelled(word: &[u8], n: u64, out: &mut [u8], at: usize) -> usize
+    requires { ⌜ (length (now word) ≤ wordMost) × Room at labelledMost ⌝ }
+    ensures { λ r. ⌜ Laid labelledMost (now (out .entry)) at (now (word .entry) ++ spelled n) (now (out .exit)) r ⌝ }
 {
     let next = put_word(word, out, at);
     put_number(n, out, next)

@@ -4,10 +4,10 @@ ghost use Prim.Native.Nat.{_*_, _-_, _≤_, _<_, min};
 ghost use lib.ListN.{getD};
 ghost use Rattle.config.specs.Limits.{maxListed, maxNodes, maxTerms};
 ghost use Rattle.listing.specs.Overlay.{Laid, Room, Written};
-ghost use Rattle.listing.specs.Listing.{each, linkLine, listing, log, proposal, radioLine, refusal, runLine, snapshot, termText};
-ghost use Rattle.listing.specs.Listing.{linkLineMost, listingMost, logMost, proposalMost, radioLineMost, refusalMost, runLineMost, snapshotMost, termMost};
+ghost use Rattle.listing.specs.Listing.{each, linkLine, listing, logLine, proposalLine, radioLine, refusal, runLine, snapshotLine, termText};
+ghost use Rattle.listing.specs.Listing.{linkLineMost, listingMost, logLineMost, proposalLineMost, radioLineMost, refusalMost, runLineMost, snapshotLineMost, termMost};
 use super::overlay::put;
-use super::overlay::put_entry;
+use super::overlay::put_labelled;
 use super::overlay::put_spaced;
 use config::limits::LOG_COUNTS;
 use config::limits::MAX_LISTED;
@@ -16,6 +16,9 @@ use config::limits::MAX_TERMS;
 use config::limits::RECORD_SIZE;
 use config::limits::SNAPSHOT_SIZE;
 use metrics::summary::Summary;
+
+// No listing has more bytes: `listingMost` adds them up.
+pub const LISTING_SIZE: usize = 165403;
 
 // The number at a place of a buffer, 0 past its end.
 fn number_at(s: &[u64], i: usize) -> u64
@@ -49,10 +52,10 @@ fn put_run_line(s: Summary, out: &mut [u8], at: usize) -> usize
     requires { ⌜ Room at runLineMost ⌝ }
     ensures { λ r. ⌜ Laid runLineMost (now (out .entry)) at (runLine s) (now (out .exit)) r ⌝ }
 {
-    let a = put_entry(b"nodes ", s.nodes, out, at);
-    let b = put_entry(b" rounds ", s.rounds, out, a);
-    let c = put_entry(b" slots ", s.slots, out, b);
-    let d = put_entry(b" ended ", s.ended, out, c);
+    let a = put_labelled(b"nodes ", s.nodes, out, at);
+    let b = put_labelled(b" rounds ", s.rounds, out, a);
+    let c = put_labelled(b" slots ", s.slots, out, b);
+    let d = put_labelled(b" ended ", s.ended, out, c);
     put(b'\n', out, d)
 }
 
@@ -60,9 +63,9 @@ fn put_radio_line(s: Summary, out: &mut [u8], at: usize) -> usize
     requires { ⌜ Room at radioLineMost ⌝ }
     ensures { λ r. ⌜ Laid radioLineMost (now (out .entry)) at (radioLine s) (now (out .exit)) r ⌝ }
 {
-    let a = put_entry(b"listen ", s.listen, out, at);
-    let b = put_entry(b" flood ", s.flood, out, a);
-    let c = put_entry(b" sleep ", s.sleep, out, b);
+    let a = put_labelled(b"listen ", s.listen, out, at);
+    let b = put_labelled(b" flood ", s.flood, out, a);
+    let c = put_labelled(b" sleep ", s.sleep, out, b);
     put(b'\n', out, c)
 }
 
@@ -70,25 +73,25 @@ fn put_link_line(s: Summary, out: &mut [u8], at: usize) -> usize
     requires { ⌜ Room at linkLineMost ⌝ }
     ensures { λ r. ⌜ Laid linkLineMost (now (out .entry)) at (linkLine s) (now (out .exit)) r ⌝ }
 {
-    let a = put_entry(b"links ", s.attempts, out, at);
+    let a = put_labelled(b"links ", s.attempts, out, at);
     let b = put_spaced(s.successes, out, a);
-    let c = put_entry(b" floods ", s.flood_rounds, out, b);
+    let c = put_labelled(b" floods ", s.flood_rounds, out, b);
     let d = put_spaced(s.flood_nodes, out, c);
     let e = put_spaced(s.covered, out, d);
-    let f = put_entry(b" recovery ", s.nacks, out, e);
+    let f = put_labelled(b" recovery ", s.nacks, out, e);
     let g = put_spaced(s.piggybacks, out, f);
     put(b'\n', out, g)
 }
 
 // Record i.
 fn put_record(records: &[u64], i: usize, out: &mut [u8], at: usize) -> usize
-    requires { ⌜ (i < maxTerms) × Room at proposalMost ⌝ }
-    ensures { λ r. ⌜ Laid proposalMost (now (out .entry)) at (proposal (now (records .entry)) i) (now (out .exit)) r ⌝ }
+    requires { ⌜ (i < maxTerms) × Room at proposalLineMost ⌝ }
+    ensures { λ r. ⌜ Laid proposalLineMost (now (out .entry)) at (proposalLine (now (records .entry)) i) (now (out .exit)) r ⌝ }
 {
     let id = number_at(records, RECORD_SIZE * i);
     let start = number_at(records, RECORD_SIZE * i + 1);
     let end = number_at(records, RECORD_SIZE * i + 2);
-    let a = put_entry(b"proposal ", id, out, at);
+    let a = put_labelled(b"proposal ", id, out, at);
     let b = put_spaced(start, out, a);
     let c = put_spaced(end, out, b);
     let d = put_spaced(latency(start, end), out, c);
@@ -97,8 +100,8 @@ fn put_record(records: &[u64], i: usize, out: &mut [u8], at: usize) -> usize
 
 // The first n records.
 fn put_records(n: u64, records: &[u64], out: &mut [u8], at: usize) -> usize
-    requires { ⌜ (n ≤ maxTerms) × Room at (maxTerms * proposalMost) ⌝ }
-    ensures { λ r. ⌜ Laid (maxTerms * proposalMost) (now (out .entry)) at (each (proposal (now (records .entry))) n) (now (out .exit)) r ⌝ }
+    requires { ⌜ (n ≤ maxTerms) × Room at (maxTerms * proposalLineMost) ⌝ }
+    ensures { λ r. ⌜ Laid (maxTerms * proposalLineMost) (now (out .entry)) at (each (proposalLine (now (records .entry))) n) (now (out .exit)) r ⌝ }
 {
     let mut next = at;
     for i in 0..n as usize {
@@ -109,15 +112,15 @@ fn put_records(n: u64, records: &[u64], out: &mut [u8], at: usize) -> usize
 
 // Snapshot i.
 fn put_snapshot(snapshots: &[u64], i: usize, out: &mut [u8], at: usize) -> usize
-    requires { ⌜ (i < maxListed) × Room at snapshotMost ⌝ }
-    ensures { λ r. ⌜ Laid snapshotMost (now (out .entry)) at (snapshot (now (snapshots .entry)) i) (now (out .exit)) r ⌝ }
+    requires { ⌜ (i < maxListed) × Room at snapshotLineMost ⌝ }
+    ensures { λ r. ⌜ Laid snapshotLineMost (now (out .entry)) at (snapshotLine (now (snapshots .entry)) i) (now (out .exit)) r ⌝ }
 {
     let slot = number_at(snapshots, SNAPSHOT_SIZE * i);
     let progress = number_at(snapshots, SNAPSHOT_SIZE * i + 1);
     let listening = number_at(snapshots, SNAPSHOT_SIZE * i + 2);
     let flooding = number_at(snapshots, SNAPSHOT_SIZE * i + 3);
     let sleeping = number_at(snapshots, SNAPSHOT_SIZE * i + 4);
-    let a = put_entry(b"snapshot ", slot, out, at);
+    let a = put_labelled(b"snapshot ", slot, out, at);
     let b = put_spaced(progress, out, a);
     let c = put_spaced(listening, out, b);
     let d = put_spaced(flooding, out, c);
@@ -127,8 +130,8 @@ fn put_snapshot(snapshots: &[u64], i: usize, out: &mut [u8], at: usize) -> usize
 
 // The first n snapshots.
 fn put_snapshots(n: u64, snapshots: &[u64], out: &mut [u8], at: usize) -> usize
-    requires { ⌜ (n ≤ maxListed) × Room at (maxListed * snapshotMost) ⌝ }
-    ensures { λ r. ⌜ Laid (maxListed * snapshotMost) (now (out .entry)) at (each (snapshot (now (snapshots .entry))) n) (now (out .exit)) r ⌝ }
+    requires { ⌜ (n ≤ maxListed) × Room at (maxListed * snapshotLineMost) ⌝ }
+    ensures { λ r. ⌜ Laid (maxListed * snapshotLineMost) (now (out .entry)) at (each (snapshotLine (now (snapshots .entry))) n) (now (out .exit)) r ⌝ }
 {
     let mut next = at;
     for i in 0..n as usize {
@@ -160,10 +163,10 @@ fn put_terms(n: u64, logs: &[u8], i: usize, out: &mut [u8], at: usize) -> usize
 
 // Node i's log.
 fn put_log(logs: &[u8], i: usize, out: &mut [u8], at: usize) -> usize
-    requires { ⌜ (i < maxNodes) × Room at logMost ⌝ }
-    ensures { λ r. ⌜ Laid logMost (now (out .entry)) at (log (now (logs .entry)) i) (now (out .exit)) r ⌝ }
+    requires { ⌜ (i < maxNodes) × Room at logLineMost ⌝ }
+    ensures { λ r. ⌜ Laid logLineMost (now (out .entry)) at (logLine (now (logs .entry)) i) (now (out .exit)) r ⌝ }
 {
-    let a = put_entry(b"log ", i as u64, out, at);
+    let a = put_labelled(b"log ", i as u64, out, at);
     let n = smaller(byte_at(logs, LOG_COUNTS + i), MAX_TERMS as u64);
     let b = put_terms(n, logs, i, out, a);
     put(b'\n', out, b)
@@ -171,8 +174,8 @@ fn put_log(logs: &[u8], i: usize, out: &mut [u8], at: usize) -> usize
 
 // The logs of the first n nodes.
 fn put_logs(n: u64, logs: &[u8], out: &mut [u8], at: usize) -> usize
-    requires { ⌜ (n ≤ maxNodes) × Room at (maxNodes * logMost) ⌝ }
-    ensures { λ r. ⌜ Laid (maxNodes * logMost) (now (out .entry)) at (each (log (now (logs .entry))) n) (now (out .exit)) r ⌝ }
+    requires { ⌜ (n ≤ maxNodes) × Room at (maxNodes * logLineMost) ⌝ }
+    ensures { λ r. ⌜ Laid (maxNodes * logLineMost) (now (out .entry)) at (each (logLine (now (logs .entry))) n) (now (out .exit)) r ⌝ }
 {
     let mut next = at;
     for i in 0..n as usize {
@@ -206,6 +209,6 @@ pub fn write_listing(
 pub fn write_refusal(number: u64, out: &mut [u8]) -> usize
     ensures { λ r. ⌜ Written refusalMost (refusal number) (now (out .entry)) (now (out .exit)) r ⌝ }
 {
-    let next = put_entry(b"refused ", number, out, 0);
+    let next = put_labelled(b"refused ", number, out, 0);
     put(b'\n', out, next)
 }

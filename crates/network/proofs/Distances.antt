@@ -6,7 +6,7 @@ use mathlib.Core.Logic.{_⊎_, inl, inr, ⊎-elim}
 use mathlib.Core.List.{List}
 use mathlib.Core.Option.{Option, none, some, Option·none-ne-some, Option·some-injective}
 use Prim.Native.Nat.{ℕ, zero, suc, _+_, _-_, _^_, _≤_, _<_, zero-le, suc-le-suc, max}
-use native.Mathlib.Nat.{not-suc-le-zero, le-of-suc-le-suc, le-refl, le-step, le-trans, le-antisymm, eq-or-lt-of-le, le-max-left, le-max-right, max-le, max-eq-left, max-eq-right, le-of-lt}
+use native.Mathlib.Nat.{not-suc-le-zero, le-of-suc-le-suc, le-refl, le-step, le-trans, le-antisymm, eq-or-lt-of-le, le-max-left, le-max-right, max-eq-left, max-eq-right, le-of-lt}
 use native.Mathlib.Numerals.{add-one}
 use lib.Dec.{leb}
 use borrow.Author.Tests.{leb-true, leb-false}
@@ -23,11 +23,6 @@ greatest-bound (suc n) f i h =
     ⊎-elim (λ p. subst (λ (k : ℕ). f k ≤ max (greatest n f) (f n)) (sym p) (le-max-right (greatest n f) (f n)))
     (λ l. le-trans (greatest-bound n f i l) (le-max-left (greatest n f) (f n)))
     (eq-or-lt-of-le (le-of-suc-le-suc h))
-
-pub greatest-least : (n : ℕ) (f : ℕ → ℕ) (m : ℕ) → ((i : ℕ) → i < n → f i ≤ m) → greatest n f ≤ m
-unfolding greatest
-greatest-least zero f m h = zero-le
-greatest-least (suc n) f m h = max-le (greatest-least n f m (λ i l. h i (le-step l))) (h n (le-refl (suc n)))
 
 -- it is one of them, or 0
 pub greatest-at : (n : ℕ) (f : ℕ → ℕ) → ((i : ℕ) × (i < n) × (f i ≡ greatest n f)) ⊎ (greatest n f ≡ 0)

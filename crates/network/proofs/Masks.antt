@@ -11,7 +11,7 @@ use lib.Arith.{digits-div, digits-mod}
 use lib.Bits.{bitOr, or-lt}
 use lib.Dec.{eqb, leb, ltb, eqb·suc-zero, eqb·zero-suc}
 use lib.Pow.{pow-pos, pow-mono}
-use Rattle.network.specs.Graph.{has, setOf}
+use Rattle.network.specs.Graph.{setOf}
 use Rattle.network.specs.Topology.{ends, child}
 use Rattle.network.proofs.Lowest.{has-less}
 use Rattle.network.proofs.Sets.{same, two, has-or, has-full, has-setOf, setOf-lt, setOf-cong, setOf-one, set-ext}

@@ -40,6 +40,13 @@ branching (Tree b) = b
 abbrev pub Sized : Topology → Type 0
 Sized t = ((0 < columns t) × (columns t ≤ maxNodes)) × (branching t ≤ maxBranching)
 
+-- Node i of n in a grid of c columns.
+pub record InGrid (c n i : ℕ) : Type 0 where
+  pub column : 0 < c
+  pub fits : c ≤ maxNodes
+  pub few : n ≤ maxNodes
+  pub node : i < n
+
 -- And before question 3 is asked.
 pub record Askable (t : Topology) (second most : ℕ) : Type 0 where
   pub column : 0 < columns t

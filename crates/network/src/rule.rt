@@ -6,7 +6,7 @@ ghost use lib.Dec.{eqb, ltb};
 ghost use Rattle.config.specs.Limits.{maxNodes, maxBranching};
 ghost use Rattle.network.specs.Graph.{setOf};
 ghost use Rattle.network.specs.Topology.{beside, ends, child, rule, topologyRow};
-ghost use Rattle.network.specs.Builders.{rightOrBelow, Sized};
+ghost use Rattle.network.specs.Builders.{rightOrBelow, Sized, InGrid};
 use crate::graph::full_set;
 use crate::topology::Topology;
 use crate::units::NodeId;
@@ -53,7 +53,7 @@ fn star(n: usize, i: usize) -> u64
 
 // In rows of c, the nodes to the right of i and below it.
 fn right_and_below(c: usize, n: usize, i: usize) -> u64
-    requires { ⌜ ((0 < c) × (c ≤ maxNodes)) × ((n ≤ maxNodes) × (i < n)) ⌝ }
+    requires { ⌜ InGrid c n i ⌝ }
     ensures { λ r. ⌜ r ≡ setOf n (rightOrBelow c i) ⌝ }
 {
     let below = only(n, i + c);
@@ -66,7 +66,7 @@ fn right_and_below(c: usize, n: usize, i: usize) -> u64
 
 // The nodes to the left of i and above it.
 fn left_and_above(c: usize, n: usize, i: usize) -> u64
-    requires { ⌜ ((0 < c) × (c ≤ maxNodes)) × ((n ≤ maxNodes) × (i < n)) ⌝ }
+    requires { ⌜ InGrid c n i ⌝ }
     ensures { λ r. ⌜ r ≡ setOf n (λ j. rightOrBelow c j i) ⌝ }
 {
     let above = back(n, i, c);

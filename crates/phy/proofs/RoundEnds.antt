@@ -12,6 +12,7 @@ use lib.Pow.{pow-mono}
 use lib.ListN.{length, getD, set, length-set}
 use lib.Seq.{getD-set-same, getD-set-other}
 use borrow.Author.Tests.{eqb-true, eqb-false, eq-eqb, ne-eqb, lt-ltb, not-true, not-false}
+use Rattle.config.specs.Limits.{wordBits}
 use Rattle.network.specs.Graph.{has, setOf}
 use Rattle.network.proofs.Sets.{two, has-or, has-one, has-setOf, setOf-cong, setOf-lt, setOf-one}
 use Rattle.random.proofs.Tables.{getD-tabulate}
@@ -23,12 +24,12 @@ use Rattle.phy.specs.declared.node.Payload.{Payload}
 use Rattle.phy.specs.declared.packet.Packet.{Packet}
 use Rattle.phy.specs.declared.slot.Flood.{Flood as Floods}
 use Rattle.phy.specs.declared.slot.Settings.{Settings}
-use Rattle.phy.specs.Limits.{setBits, packetSize}
+use Rattle.phy.specs.Limits.{packetSize}
 use Rattle.phy.specs.Node.{new, begunBy, deliveredTo, holding, listens, floods, sleeps, isListening, isFlooding, isSleeping}
 use Rattle.phy.specs.Packets.{packetNumbers, holds}
 use Rattle.phy.specs.Slot.{Standing, at, insert, sumOf}
 use Rattle.phy.specs.Round.{begun, delivered, withNodes, participants, coverage}
-use Rattle.phy.specs.View.{tables, Gave, Holding, Stands, Queued, InSlot, Cleared, placeAfter, begunFlood, CanBegin, Begins, Delivers, sameNumbers}
+use Rattle.phy.specs.View.{tables, Gave, Holding, Stands, Queued, InSlot, Emptied, placeAfter, begunFlood, CanBegin, Begins, Delivers, sameNumbers}
 use Rattle.phy.proofs.Masks.{has-zero, has-insert, insert-lt}
 use Rattle.phy.proofs.Nodes.{delivered-state, count-cong, total-begun, total-delivered}
 use Rattle.phy.proofs.Numbers.{same-numbers}
@@ -49,7 +50,7 @@ pub all-but : (n first : ℕ) → first < n → setOf n (λ (j : ℕ). not (eqb 
 all-but n first h = omega (arith, two-parts n (λ (j : ℕ). eqb j first), setOf-one n first h)
 
 -- ---- a round begins
-module _ (n repeats first : ℕ) (packet : Packet) (x : Floods) (h h' b₀ b : List ℕ) (s : Standing) (few : first < n) (most : n ≤ setBits) (some : 1 ≤ repeats)
+module _ (n repeats first : ℕ) (packet : Packet) (x : Floods) (h h' b₀ b : List ℕ) (s : Standing) (few : first < n) (most : n ≤ wordBits) (some : 1 ≤ repeats)
     (gave : Gave first (packetNumbers packet) h h') (st : Stands n x h b₀ b s) where
   abbrev nodes : List Node
   nodes = s .nodes
@@ -120,7 +121,7 @@ module _ (n repeats first : ℕ) (packet : Packet) (x : Floods) (h h' b₀ b : L
       (⊎-elim own other (two (eqb j first)))
     where
       bit : has (insert first (x .holding)) j ≡ eqb j first || has (x .holding) j
-      bit = has-insert setBits (st .holders) (omega arith) j (omega arith)
+      bit = has-insert wordBits (st .holders) (omega arith) j (omega arith)
 
       own : eqb j first ≡ true → Holding h' (insert first (x .holding)) j (begunBy (eqb j first) packet repeats (at nodes j) .payload)
       own e =
@@ -145,7 +146,7 @@ module _ (n repeats first : ℕ) (packet : Packet) (x : Floods) (h h' b₀ b : L
         flooding = sym (setOf-one n first few) ∙ setOf-cong n (λ j p. sym (flooding-then j p));
         room = gave .size ∙ st .room;
         held = held-then;
-        holders = insert-lt setBits (st .holders) (omega arith);
+        holders = insert-lt wordBits (st .holders) (omega arith);
         listens = st .listens ∙ sym (same-count (λ (v : Node). v .«slots_listen») (λ v. refl) (λ v. refl));
         floods = st .floods ∙ sym (same-count (λ (v : Node). v .«slots_flood») (λ v. refl) (λ v. refl));
         sleeps = st .sleeps ∙ sym (same-count (λ (v : Node). v .«slots_sleep») (λ v. refl) (λ v. refl));
@@ -158,7 +159,7 @@ module _ (n repeats first : ℕ) (packet : Packet) (x : Floods) (h h' b₀ b : L
 
 -- the same of what the code's begin gave
 pub opens : (g : Settings) (first : ℕ) (packet : Packet) {key : List ℕ} {x y : Floods} {e₀ e e' w h h' b₀ b : List ℕ} {s : Standing} → CanBegin g first h → g .repeats ≤ length e₀
-    → Cleared (g .repeats) e₀ e → key ≡ packetNumbers packet → Begins g first key x e h y e' h' → Stands (g .nodes) x h b₀ b s
+    → Emptied (g .repeats) e₀ e → key ≡ packetNumbers packet → Begins g first key x e h y e' h' → Stands (g .nodes) x h b₀ b s
     → InSlot g 0 y (tables e' w b) h' b₀ (withNodes (begun (g .nodes) (g .repeats) first packet (s .nodes)) s)
 opens g first packet {key} {x} {y} {e₀} {e} {e'} {w} {h} {h'} {b₀} {b} {s} can room cleared k begins st =
     let n = g .nodes in
@@ -188,7 +189,7 @@ heldFlood set x =
       snapshots = x .snapshots;
     }
 
-module _ (n first : ℕ) (packet : Packet) (x : Floods) (r : Delivered) (h h' b₀ b : List ℕ) (s : Standing) (most : n ≤ setBits)
+module _ (n first : ℕ) (packet : Packet) (x : Floods) (r : Delivered) (h h' b₀ b : List ℕ) (s : Standing) (most : n ≤ wordBits)
     (st : Stands n x h b₀ b s) (d : Delivers n first (packetNumbers packet) (bitOr (x .listening) (x .flooding)) (x .holding) h r h') where
   abbrev awake : ℕ
   awake = bitOr (x .listening) (x .flooding)
@@ -284,7 +285,7 @@ module _ (n first : ℕ) (packet : Packet) (x : Floods) (r : Delivered) (h h' b�
   delivered-covered = d .covered ∙ count-cong n _ _ covered-by
 
 -- the same of what the code's end gave
-pub closes : (n first : ℕ) (packet : Packet) {key : List ℕ} {x y : Floods} {r : Delivered} {h h' b₀ b : List ℕ} {s : Standing} → n ≤ setBits → key ≡ packetNumbers packet
+pub closes : (n first : ℕ) (packet : Packet) {key : List ℕ} {x y : Floods} {r : Delivered} {h h' b₀ b : List ℕ} {s : Standing} → n ≤ wordBits → key ≡ packetNumbers packet
     → y ≡ heldFlood (r .holding) x
     → Delivers n first key (bitOr (x .listening) (x .flooding)) (x .holding) h r h' → Stands n x h b₀ b s
     → Stands n y h' b₀ b (withNodes (delivered n packet (s .nodes)) s)

@@ -15,7 +15,7 @@ use Rattle.config.specs.Limits.{snapshotSize}
 use Rattle.network.proofs.Sets.{two}
 use Rattle.phy.specs.Slot.{Shots, takeOne, takeWhile}
 use Rattle.phy.specs.Snapshots.{snapshotRoom, snapshotsWith}
-use Rattle.phy.specs.View.{Stores, Recorded}
+use Rattle.phy.specs.View.{Stores, Scheduled}
 
 -- ---- where they are stored
 pub five-sets : (b : List ℕ) (i v w x y z : ℕ)
@@ -37,7 +37,7 @@ unfolding snapshotsWith
 length-with b shots = length-sets b 0 (flatten (take (snapshotRoom b) shots))
 
 -- as a run begins
-pub recorded-none : (b : List ℕ) → Recorded 0 0 b b (record { next = 0; taken = [] })
+pub recorded-none : (b : List ℕ) → Scheduled 0 0 b b (record { next = 0; taken = [] })
 unfolding snapshotsWith flatten
 recorded-none b =
     record { due = refl; counted = refl; stored = sym (ap (λ (l : List (List ℕ)). sets b 0 (flatten l)) (take-nil (snapshotRoom b))); whole = refl }
@@ -87,7 +87,7 @@ module _ (interval : ℕ) (shot : ℕ → List ℕ) (slot : ℕ) where
 
 -- one is taken, and the code stores it
 pub recorded-one : (interval : ℕ) (shot : ℕ → List ℕ) {next count : ℕ} {b₀ b b' : List ℕ} {x : Shots} → length (shot next) ≡ snapshotSize
-    → Recorded next count b₀ b x → Stores count (shot next) b b' → Recorded (next + interval) (count + 1) b₀ b' (takeOne interval shot x)
+    → Scheduled next count b₀ b x → Stores count (shot next) b b' → Scheduled (next + interval) (count + 1) b₀ b' (takeOne interval shot x)
 unfolding takeOne
 recorded-one interval shot {next} {count} {b₀} {b} {b'} {x} five r s =
     let five' : length (shot (x .next)) ≡ snapshotSize = subst (λ (k : ℕ). length (shot k) ≡ snapshotSize) (r .due) five in

@@ -28,7 +28,7 @@ use Rattle.phy.specs.declared.snapshot.Schedule.{Schedule}
 use Rattle.phy.specs.Limits.{mostSlots}
 use Rattle.phy.specs.Node.{tick, tickIn, transition, transitionIn, listens, floods, sleeps, isListening, isFlooding, isSleeping}
 use Rattle.phy.specs.Slot.{Setup, Shots, Standing, at, sumOf, ticked, moved, snapshot, attemptAll, triesIn, takeWhile, slotStep}
-use Rattle.phy.specs.View.{Tables, tables, asSetup, triesOf, receiversOf, shownOf, shotOf, Takes, awakeAfter, Advances, placeAfter, Queued, Holding, Stands, InSlot}
+use Rattle.phy.specs.View.{Tables, tables, asSetup, triesOf, receiversOf, shownOf, shotOf, TakesDue, awakeAfter, Advances, placeAfter, Queued, Holding, Stands, InSlot}
 use Rattle.phy.proofs.Nodes.{tick-state, at-ticked, at-moved, total-slot, ones-setOf, three-states}
 use Rattle.phy.proofs.Counts.{all-slots}
 use Rattle.phy.proofs.Masks.{has-and, set-is}
@@ -255,7 +255,7 @@ module _ (n : ℕ) {x : Floods} {h b₀ b : List ℕ} {s : Standing} {seen : Sho
 module _ (g : Settings) (rows : List ℕ) (heard : ℕ → Bool) (p : ℕ) (x : Floods) (t : Tables) (h b₀ : List ℕ) (s : Standing) (here : InSlot g p x t h b₀ s)
     (seen : Shown) (seen-is : seen ≡ shownOf (g .nodes) (g .progress) (ones (x .listening)) (ones (x .flooding)))
     (taken : Schedule) (b' : List ℕ)
-    (takes : Takes (g .interval) (x .slot .0) seen (record { next = record { 0 = x .«next_snapshot» .0 }; count = x .snapshots }) (t .snapshots) taken b')
+    (takes : TakesDue (g .interval) (x .slot .0) seen (record { next = record { 0 = x .«next_snapshot» .0 }; count = x .snapshots }) (t .snapshots) taken b')
     (tried : Tried)
     (tried-is : triesOf tried ≡ attemptAll heard (record { attempts = x .attempts; successes = x .successes; reached = 0 }) (receiversOf rows (g .nodes) (x .flooding) (x .listening)))
     (r : Awake) (e' : List ℕ) (advances : Advances p (tried .reached) (record { listening = x .listening; flooding = x .flooding }) (t .queue) r e') where

@@ -1,10 +1,6 @@
 -- The limits of a flood, and the layouts of the tables lent to it.
 use Prim.Native.Nat.{ℕ, _*_, _^_}
-use Rattle.config.specs.Limits.{maxNodes, maxRepeats}
-
--- the bits of a set of nodes
-abbrev pub setBits : ℕ
-setBits = 64
+use Rattle.config.specs.Limits.{wordBits, maxNodes, maxRepeats}
 
 -- the numbers of a packet
 abbrev pub packetSize : ℕ
@@ -20,7 +16,7 @@ queueSize = maxRepeats
 
 -- A slot has no more attempts: each node tries no more nodes than a set has bits.
 abbrev pub slotAttempts : ℕ
-slotAttempts = setBits * maxNodes
+slotAttempts = wordBits * maxNodes
 
 -- A run has fewer slots, so that its counters stay in a word.
 abbrev pub mostSlots : ℕ

@@ -92,17 +92,17 @@ pub record Stores (count : ℕ) (shot b b' : List ℕ) : Type 0 where
   pub full : length b < snapshotSize * count + snapshotSize → b' ≡ b
 
 -- The slot of the next snapshot and the count are those of the definitions, and the buffer, b₀ as the run began, is b.
-pub record Recorded (next count : ℕ) (b₀ b : List ℕ) (x : Shots) : Type 0 where
+pub record Scheduled (next count : ℕ) (b₀ b : List ℕ) (x : Shots) : Type 0 where
   pub due : next ≡ x .next
   pub counted : count ≡ length (x .taken)
   pub stored : b ≡ snapshotsWith b₀ (x .taken)
   pub whole : length (flatten (x .taken)) ≡ snapshotSize * length (x .taken)
 
 -- the snapshots that are due by this slot are taken, those at the multiples of the interval
-pub record Takes (interval slot : ℕ) (seen : Shown) (y : Schedule) (b : List ℕ) (r : Schedule) (b' : List ℕ) : Type 0 where
+pub record TakesDue (interval slot : ℕ) (seen : Shown) (y : Schedule) (b : List ℕ) (r : Schedule) (b' : List ℕ) : Type 0 where
   pub multiple : r .next .0 ≡ r .count * interval
-  pub recorded : (b₀ : List ℕ) (x : Shots) → Recorded (y .next .0) (y .count) b₀ b x
-      → Recorded (r .next .0) (r .count) b₀ b' (takeWhile interval (shotOf seen) slot (suc slot) x)
+  pub recorded : (b₀ : List ℕ) (x : Shots) → Scheduled (y .next .0) (y .count) b₀ b x
+      → Scheduled (r .next .0) (r .count) b₀ b' (takeWhile interval (shotOf seen) slot (suc slot) x)
 
 -- ---- a slot
 -- the nodes after a slot in which the nodes of a set heard, and after which the nodes of another have no repeats left
@@ -150,7 +150,7 @@ pub record Stands (n : ℕ) (x : Flood) (h b₀ b : List ℕ) (s : Standing) : T
   pub attempts : x .attempts ≡ s .attempts
   pub successes : x .successes ≡ s .successes
   pub slot : x .slot .0 ≡ s .slot
-  pub shots : Recorded (x .«next_snapshot» .0) (x .snapshots) b₀ b (s .shots)
+  pub shots : Scheduled (x .«next_snapshot» .0) (x .snapshots) b₀ b (s .shots)
 
 -- so it stands in a slot, with the queue from place p on
 pub record InSlot (g : Settings) (p : ℕ) (x : Flood) (t : Tables) (h b₀ : List ℕ) (s : Standing) : Type 0 where
@@ -239,7 +239,7 @@ pub record Begins (g : Settings) (first : ℕ) (packet : List ℕ) (x : Flood) (
   pub held : Gave first packet h h'
 
 -- the first places of a queue are empty
-pub record Cleared (count : ℕ) (e e' : List ℕ) : Type 0 where
+pub record Emptied (count : ℕ) (e e' : List ℕ) : Type 0 where
   pub size : length e' ≡ length e
   pub empty : (i : ℕ) → i < count → getD e' i 0 ≡ 0
 

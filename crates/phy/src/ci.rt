@@ -12,20 +12,21 @@ use super::slot::Settings;
 use super::slot::slot;
 use config::RoundSlots;
 use config::limits::MAX_NODES;
+use network::graph::full_set;
 use network::units::NodeId;
 use random::draws::STREAM_SIZE;
 ghost use mathlib.Core.Path.{_≡_};
-ghost use Prim.Native.Nat.{_+_, _-_, _^_, _≤_, _<_};
+ghost use Prim.Native.Nat.{_+_, _≤_, _<_};
 ghost use lib.ListN.{length};
-ghost use Rattle.config.specs.Limits.{maxNodes, maxRepeats};
-ghost use Rattle.phy.specs.Limits.{setBits, heldSize, queueSize, mostSlots};
+ghost use Rattle.config.specs.Limits.{wordBits, maxNodes, maxRepeats};
+ghost use Rattle.phy.specs.Limits.{heldSize, queueSize, mostSlots};
 ghost use Rattle.phy.specs.Round.{lengthLimit};
 ghost use Rattle.phy.specs.View.{tables, lent, Sound, Meets, Slotted, placeAfter};
-ghost use Rattle.phy.specs.View.{CanBegin, Begins, Cleared, Delivers, CanFlood, Rounded};
+ghost use Rattle.phy.specs.View.{CanBegin, Begins, Emptied, Delivers, CanFlood, Rounded};
 
 // How many slots a round has at most.
 pub fn length_limit(round_slots: RoundSlots, diameter: u64, repeats: u64) -> u64
-    requires { ⌜ (diameter ≤ setBits) × (repeats ≤ maxRepeats) ⌝ }
+    requires { ⌜ (diameter ≤ wordBits) × (repeats ≤ maxRepeats) ⌝ }
     ensures { λ r. ⌜ r ≡ lengthLimit «round_slots» diameter repeats ⌝ }
 {
     match round_slots {
@@ -52,17 +53,9 @@ struct Delivered {
     holding: u64,
 }
 
-// The set of the first n nodes.
-fn full_set(n: usize) -> u64
-    requires { ⌜ n < setBits ⌝ }
-    ensures { λ r. ⌜ r ≡ 2 ^ n - 1 ⌝ }
-{
-    (1u64 << n) - 1
-}
-
 // As a round begins, all nodes listen but the initiator, which floods and holds the packet. It stands
 // at the last place of the queue, with all its repeats.
-fn begin(
+fn begin_round(
     settings: Settings,
     initiator: NodeId,
     packet: [u64; PACKET_SIZE],
@@ -150,9 +143,9 @@ fn deliver(
 }
 
 // The first places of the queue are empty.
-fn clear(queue: &mut [u64; QUEUE_SIZE], count: usize)
+fn empty_queue(queue: &mut [u64; QUEUE_SIZE], count: usize)
     requires { ⌜ count ≤ queueSize ⌝ }
-    ensures { λ _. ⌜ Cleared count (now (queue .entry)) (now (queue .exit)) ⌝ }
+    ensures { λ _. ⌜ Emptied count (now (queue .entry)) (now (queue .exit)) ⌝ }
 {
     for i in 0..count {
         queue[i] = 0;
@@ -178,8 +171,8 @@ pub fn flood_identical_round(
         r (lent (now (queue .exit)) (now (stream .exit)) (now (held .exit)) (now (snapshots .exit))) ⌝ }
 {
     let key = numbers(packet);
-    clear(queue, settings.repeats as usize);
-    let x = begin(settings, initiator, key, flood, queue, held);
+    empty_queue(queue, settings.repeats as usize);
+    let x = begin_round(settings, initiator, key, flood, queue, held);
     let mut ended = slots(settings, rows, limit, x, queue, stream, snapshots);
     let awake = ended.listening | ended.flooding;
     let done = deliver(settings.nodes, initiator, key, awake, ended.holding, held);

@@ -4,7 +4,7 @@ use config::limits::SNAPSHOT_SIZE;
 use network::units::Slot;
 ghost use mathlib.Core.Path.{_≡_};
 ghost use Prim.Native.Nat.{_*_, _^_, _≤_, _<_};
-ghost use Rattle.phy.specs.View.{shotOf, Stores, Takes};
+ghost use Rattle.phy.specs.View.{shotOf, Stores, TakesDue};
 
 // What a snapshot shows beside its slot: the progress, and how many nodes listen, flood and sleep.
 pub struct Shown {
@@ -44,7 +44,7 @@ pub fn take_snapshots(
     snapshots: &mut [u64],
 ) -> Schedule
     requires { ⌜ (1 ≤ interval) × (slot .0 < 2 ^ 62) × (schedule .next .0 ≡ schedule .count * interval) ⌝ }
-    ensures { λ r. ⌜ Takes interval (slot .0) shown schedule (now (snapshots .entry)) r (now (snapshots .exit)) ⌝ }
+    ensures { λ r. ⌜ TakesDue interval (slot .0) shown schedule (now (snapshots .entry)) r (now (snapshots .exit)) ⌝ }
 {
     let this = slot.0;
     let mut next = schedule.next.0;

@@ -40,7 +40,7 @@ fn one_nack(nack: Nack) -> u64
 }
 
 // Where a proposal is made now, its slot is kept.
-fn start(history: &mut [u64; HISTORY_SIZE], counter: u64, proposes: bool, slot: Slot)
+fn keep_start(history: &mut [u64; HISTORY_SIZE], counter: u64, proposes: bool, slot: Slot)
     requires { ⌜ Started counter (now history) × (counter + cond proposes 1 0 ≤ maxTerms) ⌝ }
     ensures { λ _. ⌜ Starts counter proposes (slot .0) (now (history .entry)) (now (history .exit)) ⌝ }
 {
@@ -69,7 +69,7 @@ pub fn prepare_round(
     let turn = initiator_turn(states, at, initiator, n, counter, proposes, back);
     let packet = turn.packet;
     let nack = packet.nack_term;
-    start(history, counter, proposes, slot);
+    keep_start(history, counter, proposes, slot);
     let before = x.recorded;
     let recorded = record_all(history, before, turn.newly, slot);
     PreparedRound {

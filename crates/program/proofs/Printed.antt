@@ -5,7 +5,7 @@ use mathlib.Core.List.{List, [], _∷_, _++_}
 use lib.ListN.{replicate}
 use Rattle.listing.specs.Ascii.{ascii}
 use Rattle.line.specs.Line.{before, prefixed, fields, isDash, roundSlots, _>>=_, fourDecimals, readFields, readLine}
-use Rattle.listing.specs.Listing.{spelledIn, spelled, entry, each, runLine, radioLine, linkLine, proposal, snapshot, termText, log, listing}
+use Rattle.listing.specs.Listing.{spelledIn, spelled, labelled, each, runLine, radioLine, linkLine, proposalLine, snapshotLine, termText, logLine, listing}
 use Rattle.line.specs.Numeral.{digit, allDigits, append, numeral, decimal, hexadecimal}
 use Rattle.line.specs.declared.read.Line.{Line}
 use Rattle.line.specs.declared.read.Read.the-variants.{Line as Read·Line}
@@ -64,5 +64,5 @@ pub printed :
     × (listing summary records snapshots logs
     ≡ ascii "nodes 3 rounds 2 slots 5 ended 1\nlisten 5 flood 6 sleep 4\nlinks 4 4 floods 2 6 6 recovery 0 0\nproposal 0 0 3 3\nsnapshot 0 0 2 1 0\nsnapshot 2 0 0 1 2\nsnapshot 4 0 0 2 1\nlog 0 0\nlog 1 0\nlog 2 0\n")
 unfolding ascii before prefixed fields isDash roundSlots _>>=_ fourDecimals readFields readLine digit allDigits append numeral decimal hexadecimal
-    spelledIn spelled entry each runLine radioLine linkLine proposal snapshot termText log listing
+    spelledIn spelled labelled each runLine radioLine linkLine proposalLine snapshotLine termText logLine listing
 printed = (refl, refl)

@@ -27,7 +27,7 @@ use Rattle.protocol.specs.Turns.{announce, initiatorTurn, takeData, takePiggyba
 use Rattle.protocol.proofs.Starred.{starred}
 use Rattle.listing.specs.Ascii.{ascii}
 use Rattle.line.specs.Line.{before, prefixed, fields, isDash, roundSlots, _>>=_, fourDecimals, readFields, readLine}
-use Rattle.listing.specs.Listing.{spelledIn, spelled, entry, each, runLine, radioLine, linkLine, proposal, snapshot as snapshotText, termText, log, listing}
+use Rattle.listing.specs.Listing.{spelledIn, spelled, labelled, each, runLine, radioLine, linkLine, proposalLine, snapshotLine, termText, logLine, listing}
 use Rattle.line.specs.Numeral.{digit, allDigits, append, numeral, decimal, hexadecimal}
 use Rattle.metrics.specs.declared.summary.Summary.{Summary}
 use Rattle.rules.specs.declared.answer.Answer.the-variants.{Ran}
@@ -125,7 +125,7 @@ unfolding has all count linked widened greatest eccentricity diameter topologyRo
     gapIn detectGap find recovery announce initiatorTurn takeData takePiggyback takeVotes participantTurn rateAllowed topologyRefusal recorded
     recordAll prepareRound takeTurn turns processRound shortestFrom runRound complete endAfter roundsFrom runFor sumOf logsWith recordNumbers ranWith
     runOfTopology Ieee.le ofBits ascii before prefixed fields isDash roundSlots _>>=_ fourDecimals readFields readLine digit allDigits append
-    numeral decimal hexadecimal spelledIn spelled entry each runLine radioLine linkLine proposal snapshotText termText log listing lineText
+    numeral decimal hexadecimal spelledIn spelled labelled each runLine radioLine linkLine proposalLine snapshotLine termText logLine listing lineText
     printed
 starred-runs =
     record {

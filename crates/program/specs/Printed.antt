@@ -2,7 +2,7 @@
 use Prim.Native.Nat.{ℕ}
 use mathlib.Core.List.{List}
 use lib.ListN.{replicate}
-use Rattle.config.specs.Limits.{logSize, recordsSize}
+use Rattle.config.specs.Limits.{logSize, recordsSize, listedSize}
 use Rattle.line.specs.declared.read.Line.{Line}
 use Rattle.line.specs.declared.read.Read.{Read}
 use Rattle.line.specs.declared.read.Read.the-variants.{Line as Read·Line, Unreadable}
@@ -25,7 +25,7 @@ outcomeText o = answerText (o .answer) (o .logs) (o .records) (o .snapshots)
 unfoldable pub lineText : Line → List ℕ
 lineText l =
     outcomeText
-    (runOfTopology (l .topology) (l .first) (l .second) (configOf l) (replicate logSize 0) (replicate recordsSize 0) (replicate 5000 0))
+    (runOfTopology (l .topology) (l .first) (l .second) (configOf l) (replicate logSize 0) (replicate recordsSize 0) (replicate listedSize 0))
 
 -- 12: is the line readable?
 abbrev pub readText : Read → List ℕ

@@ -18,7 +18,7 @@ use Rattle.listing.specs.Ascii.{ascii}
 use Rattle.metrics.specs.declared.summary.Summary.{Summary}
 use Rattle.rules.specs.declared.answer.Answer.{Answer}
 use Rattle.rules.specs.declared.answer.Answer.the-variants.{Ran}
-use Rattle.config.specs.Limits.{logSize, recordsSize}
+use Rattle.config.specs.Limits.{logSize, recordsSize, listedSize}
 use Rattle.config.specs.declared.Config.{Config}
 use Rattle.rules.specs.Entries.{terms, runOfTopology}
 use Rattle.rules.specs.ExactRounds.{Asked, outcomeFor}
@@ -81,7 +81,7 @@ pub record StarredRuns : Type 0 where
   pub gap : detectGap 5 (commitUpTo 3 pendingTwo) ≡ Gap.At (record { 0 = 4 })
   -- star 4, r 1, P 0: one round, 2 slots, 3 listen, 4 flood, 1 sleep, end 1; for every seed, interval and slot limit of at least 1
   pub star : (seed interval limit : ℕ) → 1 ≤ interval → 1 ≤ limit →
-      StarRun (runOfTopology 3 4 0 (idleConfig seed interval limit) (replicate logSize 0) (replicate recordsSize 0) (replicate 5000 0) .answer)
+      StarRun (runOfTopology 3 4 0 (idleConfig seed interval limit) (replicate logSize 0) (replicate recordsSize 0) (replicate listedSize 0) .answer)
   -- limit 0: no round, end 4; for every run of rows or of a topology that is not refused
   pub limit-0 : (q : Asked) (c : Config) (logs records snapshots : List ℕ) (s : Summary) → c .«max_slots» ≡ 0 →
       outcomeFor q c logs records snapshots .answer ≡ Ran s → (s .rounds ≡ 0) × (s .ended ≡ 4)

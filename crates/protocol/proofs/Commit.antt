@@ -13,7 +13,7 @@ use lib.Dec.{eqb, ltb}
 use lib.Pow.{pow-mono}
 use Rattle.phy.specs.declared.packet.LastAccepted.{LastAccepted}
 use Rattle.protocol.specs.declared.paxos.Gap.{Gap}
-use Rattle.protocol.specs.Paxos.{Entry, Pending, State, logged, held, put, entry, raise, quorum, greatestQuorum, commitTerm, commitBelow, newlyBelow, termSet, after, gapIn, detectGap}
+use Rattle.protocol.specs.Paxos.{Entry, Pending, State, logged, held, updated, entry, raise, quorum, greatestQuorum, commitTerm, commitBelow, newlyBelow, termSet, after, gapIn, detectGap}
 use Rattle.protocol.proofs.Places.{either}
 use Rattle.protocol.proofs.Sets.{add-high, low-bit, own-bit}
 use Rattle.protocol.proofs.Logs.{logged-append}
@@ -61,7 +61,7 @@ pub term-other : (j t : ℕ) (x : State) → eqb j t ≡ false → logged j (com
 unfolding commitTerm
 term-other j t x e = go (logged t (x .log))
   where
-    go : (b : Bool) → logged j (cond b x (record { log = x .log ++ entry t (x .pending t); pending = put t none (x .pending); last = raise t (x .last) }) .log) ≡ logged j (x .log)
+    go : (b : Bool) → logged j (cond b x (record { log = x .log ++ entry t (x .pending t); pending = updated t none (x .pending); last = raise t (x .last) }) .log) ≡ logged j (x .log)
     go true = refl
     go false = logged-append j (x .log) (entry t (x .pending t)) ∙ ap (λ (b : Bool). logged j (x .log) || b) (one-logged j t (x .pending t) e) ∙ or-false (logged j (x .log))
 

@@ -7,7 +7,7 @@ use mathlib.Core.Path.{_≡_, refl, sym, ap, _∙_}
 use native.Mathlib.Nat.{le-trans, le-refl}
 use native.Mathlib.Omega.{arith}
 use Rattle.phy.specs.declared.packet.LastAccepted.{LastAccepted}
-use Rattle.protocol.specs.Paxos.{Entry, State, logged, put, entry, raise, commitTerm}
+use Rattle.protocol.specs.Paxos.{Entry, State, logged, updated, entry, raise, commitTerm}
 use Rattle.protocol.specs.Growth.{Extends, Rises}
 use Rattle.protocol.proofs.Logs.{logged-append}
 
@@ -41,12 +41,12 @@ extends-logged t l m p e = ap (logged t) (p .1) ∙ logged-append t l (p .0) ∙
 -- by whether t is logged
 pub by-log : (P : State → Type 0) (t : ℕ) (s : State) →
     (logged t (s .log) ≡ true → P s) →
-    (logged t (s .log) ≡ false → P (record { log = s .log ++ entry t (s .pending t); pending = put t none (s .pending); last = raise t (s .last) })) →
+    (logged t (s .log) ≡ false → P (record { log = s .log ++ entry t (s .pending t); pending = updated t none (s .pending); last = raise t (s .last) })) →
     P (commitTerm t s)
 unfolding commitTerm
 by-log P t s f g = go (logged t (s .log)) refl
   where
-    go : (b : Bool) → logged t (s .log) ≡ b → P (cond b s (record { log = s .log ++ entry t (s .pending t); pending = put t none (s .pending); last = raise t (s .last) }))
+    go : (b : Bool) → logged t (s .log) ≡ b → P (cond b s (record { log = s .log ++ entry t (s .pending t); pending = updated t none (s .pending); last = raise t (s .last) }))
     go true e = f e
     go false e = g e
 

@@ -22,7 +22,7 @@ use Rattle.random.proofs.Tables.{tabulate-cong, tabulate-snoc}
 use Rattle.phy.specs.declared.packet.Data.{Data}
 use Rattle.phy.specs.declared.packet.LastAccepted.{LastAccepted}
 use Rattle.protocol.specs.Layout.{dataPlace, logPlace, pendingPlace, loggedPlace, lastPlace, nodeSize}
-use Rattle.protocol.specs.Paxos.{Entry, Pending, logged, held, isSome, put, entry, raise}
+use Rattle.protocol.specs.Paxos.{Entry, Pending, logged, held, isSome, updated, entry, raise}
 use Rattle.protocol.specs.View.{dataOf, lastOf, votesAt, dataAt, termAt, pendingSet, loggedSet, lastAt, entryAt, logOf, pendingOf, view, lastBelow, Distinct, Kept, Wrote}
 use Rattle.protocol.proofs.Places.{either, same-or}
 use Rattle.protocol.proofs.Logs.{logged-append, distinct-append}
@@ -255,7 +255,7 @@ module _
   has-more : (j : ℕ) → has (loggedSet (entered b at t e p l) at) j ≡ (has (loggedSet b at) j || eqb j t)
   has-more j = ap (λ (x : ℕ). has x j) (entered-logged-set ∙ more) ∙ has-with (loggedSet b at) t j
 
-  pub entered-pending : (j : ℕ) → pendingOf (entered b at t e p l) at j ≡ put t none (pendingOf b at) j
+  pub entered-pending : (j : ℕ) → pendingOf (entered b at t e p l) at j ≡ updated t none (pendingOf b at) j
   entered-pending j =
       same-or
       (λ (x : Bool). has (pendingSet (entered b at t e p l) at) j ≡ cond x false (has (pendingSet b at) j) →
@@ -356,7 +356,7 @@ module _
   has-held : (j : ℕ) → has (pendingSet (heldAt b at t v d p) at) j ≡ (has (pendingSet b at) j || eqb j t)
   has-held j = ap (λ (x : ℕ). has x j) (held-pending-set ∙ more) ∙ has-with (pendingSet b at) t j
 
-  pub held-pending : (j : ℕ) → pendingOf (heldAt b at t v d p) at j ≡ put t (some (record { votes = v; payload = dataOf d })) (pendingOf b at) j
+  pub held-pending : (j : ℕ) → pendingOf (heldAt b at t v d p) at j ≡ updated t (some (record { votes = v; payload = dataOf d })) (pendingOf b at) j
   held-pending j =
       same-or
       (λ (x : Bool). has (pendingSet (heldAt b at t v d p) at) j ≡ (has (pendingSet b at) j || x) →

@@ -14,7 +14,7 @@ use Rattle.phy.specs.declared.packet.Data.{Data}
 use Rattle.phy.specs.declared.packet.LastAccepted.{LastAccepted}
 use Rattle.phy.specs.declared.packet.Piggyback.{Piggyback}
 use Rattle.phy.specs.declared.packet.Packet.{Packet}
-use Rattle.protocol.specs.Paxos.{Entry, Pending, State, logged, held, isSome, put, hold, holdNew, voted, union, vote, mergeVotesUpTo, entry, raise, commitTerm, commitBelow, commitTo}
+use Rattle.protocol.specs.Paxos.{Entry, Pending, State, logged, held, isSome, updated, hold, holdNew, voted, union, vote, mergeVotesUpTo, entry, raise, commitTerm, commitBelow, commitTo}
 use Rattle.protocol.specs.Turns.{propose, accepted, announce, initiatorTurn, takeData, takeVotes, takePiggyback, participantTurn}
 use Rattle.protocol.specs.View.{Distinct}
 use Rattle.protocol.specs.Growth.{Extends, Rises, StaysPending, Apart, dataFor, ownPending, ownLog, Own}
@@ -140,7 +140,7 @@ votes-stand t p =
     }
   where
     entered : (u : ℕ) (s : State) → (eqb t u ≡ true) ⊎ (eqb t u ≡ false) → StaysPending t p s →
-        StaysPending t p (record { log = s .log ++ entry u (s .pending u); pending = put u none (s .pending); last = raise u (s .last) })
+        StaysPending t p (record { log = s .log ++ entry u (s .pending u); pending = updated u none (s .pending); last = raise u (s .last) })
     entered u s (inl e) (inl w) =
         inr (
           logged-append t (s .log) (entry u (s .pending u)) ∙
@@ -194,7 +194,7 @@ kept-apart =
     entering t l (some p) e d = distinct-append l (record { term = t; payload = p .payload }) d e
 
     entered : (t : ℕ) (s : State) → Apart s → (j : ℕ) → logged j (s .log ++ entry t (s .pending t)) ≡ true →
-        (eqb j t ≡ true) ⊎ (eqb j t ≡ false) → put t none (s .pending) j ≡ none
+        (eqb j t ≡ true) ⊎ (eqb j t ≡ false) → updated t none (s .pending) j ≡ none
     entered t s q j h (inl e) = ap (λ (b : Bool). cond b none (s .pending j)) e
     entered t s q j h (inr e) =
         ap (λ (b : Bool). cond b none (s .pending j)) e ∙
@@ -204,7 +204,7 @@ kept-apart =
         sym (logged-append j (s .log) (entry t (s .pending t))) ∙ h)
 
     holding : (t v : ℕ) (d : Data) (s : State) → held t s ≡ false → Apart s → (j : ℕ) → logged j (s .log) ≡ true →
-        (eqb j t ≡ true) ⊎ (eqb j t ≡ false) → put t (some (record { votes = v; payload = d })) (s .pending) j ≡ none
+        (eqb j t ≡ true) ⊎ (eqb j t ≡ false) → updated t (some (record { votes = v; payload = d })) (s .pending) j ≡ none
     holding t v d s e q j h (inl w) =
         absurd (true≢false (sym h ∙ ap (λ (i : ℕ). logged i (s .log)) (eqb-true j t w) ∙ or-left (logged t (s .log)) (isSome (s .pending t)) e))
     holding t v d s e q j h (inr w) =

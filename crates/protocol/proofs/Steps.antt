@@ -22,7 +22,7 @@ use Rattle.phy.specs.declared.packet.Nack.{Nack}
 use Rattle.phy.specs.declared.packet.Piggyback.{Piggyback}
 use Rattle.config.specs.Limits.{maxTerms}
 use Rattle.protocol.specs.Layout.{pendingPlace, lastPlace}
-use Rattle.protocol.specs.Paxos.{Entry, Pending, State, logged, held, hold, holdNew, isSome, put, entry, raise, after, commitTerm, commitBelow, newlyUpTo, termSet, dataIn, reply, recovery}
+use Rattle.protocol.specs.Paxos.{Entry, Pending, State, logged, held, hold, holdNew, isSome, updated, entry, raise, after, commitTerm, commitBelow, newlyUpTo, termSet, dataIn, reply, recovery}
 use Rattle.protocol.specs.View.{dataOf, codeOf, lastOf, votesAt, dataAt, pendingSet, loggedSet, lastAt, entryAt, logOf, pendingOf, view, dataBelow, Kept, Wrote, Next}
 use Rattle.protocol.proofs.Places.{either, same-or}
 use Rattle.protocol.proofs.Logs.{or-left, find-by-term}
@@ -205,7 +205,7 @@ hold-next b at t v m p d k lt q e more =
       is =
           state-is (held-log 64 b at t v m p k absent lt more)
           (λ j. held-pending 64 b at t v m p k absent lt more j ∙
-          ap (λ (x : Data). put t (some (record { votes = v; payload = x })) (pendingOf b at) j) q)
+          ap (λ (x : Data). updated t (some (record { votes = v; payload = x })) (pendingOf b at) j) q)
           (held-last 64 b at t v m p k absent lt more);
     }
 

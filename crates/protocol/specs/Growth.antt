@@ -5,11 +5,12 @@ use mathlib.Core.List.{List, [], _∷_, _++_}
 use mathlib.Core.Logic.{_⊎_}
 use mathlib.Core.Option.{Option, none, some}
 use mathlib.Core.Path.{_≡_}
+use Rattle.config.specs.Limits.{wordBits}
 use Rattle.phy.specs.declared.packet.Data.{Data}
 use Rattle.phy.specs.declared.packet.LastAccepted.{LastAccepted}
 use Rattle.phy.specs.declared.packet.Piggyback.{Piggyback}
 use Rattle.phy.specs.declared.packet.Packet.{Packet}
-use Rattle.protocol.specs.Paxos.{Entry, Pending, State, wordBits, logged}
+use Rattle.protocol.specs.Paxos.{Entry, Pending, State, logged}
 use Rattle.protocol.specs.View.{Distinct}
 
 -- m begins with l: nothing of l is removed or reordered

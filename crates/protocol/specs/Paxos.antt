@@ -6,6 +6,7 @@ use mathlib.Core.List.{List, [], _∷_, _++_}
 use mathlib.Core.Option.{Option, none, some}
 use lib.Dec.{leb, eqb}
 use lib.Count.{onesIn}
+use Rattle.config.specs.Limits.{wordBits}
 use Rattle.phy.specs.declared.packet.Data.{Data}
 use Rattle.phy.specs.declared.packet.LastAccepted.{LastAccepted}
 use Rattle.phy.specs.declared.packet.Nack.{Nack}
@@ -33,10 +34,6 @@ abbrev pub empty : State
 empty = record { log = []; pending = λ t. none; last = LastAccepted.None }
 
 -- ---- sets of nodes, as words
-
--- how many bits a word has
-abbrev pub wordBits : ℕ
-wordBits = 64
 
 -- the union, of the lowest k bits
 unfoldable pub unionIn : ℕ → ℕ → ℕ → ℕ
@@ -75,15 +72,15 @@ abbrev pub held : ℕ → State → Bool
 held t s = logged t (s .log) || isSome (s .pending t)
 
 -- the map with p in the place of t
-abbrev pub put : ℕ → Option Pending → (ℕ → Option Pending) → ℕ → Option Pending
-put t p m k = cond (eqb k t) p (m k)
+abbrev pub updated : ℕ → Option Pending → (ℕ → Option Pending) → ℕ → Option Pending
+updated t p m k = cond (eqb k t) p (m k)
 
 -- t becomes pending, with the votes v and the data d
 unfoldable pub hold : ℕ → ℕ → Data → State → State
 hold t v d s =
     record {
       log = s .log;
-      pending = put t (some (record { votes = v; payload = d })) (s .pending);
+      pending = updated t (some (record { votes = v; payload = d })) (s .pending);
       last = s .last;
     }
 
@@ -138,7 +135,7 @@ commitTerm t s =
     cond (logged t (s .log)) s
     (record {
       log = s .log ++ entry t (s .pending t);
-      pending = put t none (s .pending);
+      pending = updated t none (s .pending);
       last = raise t (s .last);
     })
 

@@ -7,7 +7,7 @@ use mathlib.Core.Path.{_≡_}
 use lib.Count.{ones}
 use lib.Dec.{ltb}
 use lib.ListN.{length, getD}
-use Rattle.config.specs.Limits.{maxTerms}
+use Rattle.config.specs.Limits.{wordBits, maxTerms}
 use Rattle.network.specs.Graph.{has}
 use Rattle.random.specs.Table.{tabulate}
 use Rattle.phy.specs.declared.packet.Data.{Data}
@@ -17,7 +17,7 @@ use Rattle.phy.specs.declared.packet.Packet.{Packet}
 use Rattle.protocol.specs.declared.turns.Announced.{Announced}
 use Rattle.protocol.specs.declared.turns.Received.{Received}
 use Rattle.protocol.specs.Layout.{dataPlace, logPlace, pendingPlace, loggedPlace, lastPlace, nodeSize, noData}
-use Rattle.protocol.specs.Paxos.{Entry, Pending, State, wordBits, logged, held, commitTo, newlyTo, termSet}
+use Rattle.protocol.specs.Paxos.{Entry, Pending, State, logged, held, commitTo, newlyTo, termSet}
 use Rattle.protocol.specs.Turns.{Initiated, counted, initiatorTurn, participantTurn}
 
 -- the data that a number stands for

@@ -24,10 +24,10 @@ ghost use mathlib.Core.Path.{_≡_};
 ghost use mathlib.Core.Bool.{false, _&&_};
 ghost use Prim.Native.Nat.{_+_, _≤_, _<_, max};
 ghost use lib.Dec.{leb};
-ghost use Rattle.config.specs.Limits.{maxTerms};
+ghost use Rattle.config.specs.Limits.{wordBits, maxTerms};
 ghost use Rattle.network.specs.Graph.{has};
 ghost use Rattle.phy.specs.declared.packet.LastAccepted.{LastAccepted};
-ghost use Rattle.protocol.specs.Paxos.{wordBits, size, majority, held, hold, holdNew, mergeVotesUpTo, greatestQuorum, commitTerm, detectGap, recovery};
+ghost use Rattle.protocol.specs.Paxos.{size, majority, held, hold, holdNew, mergeVotesUpTo, greatestQuorum, commitTerm, detectGap, recovery};
 ghost use Rattle.protocol.specs.Turns.{votesOf};
 ghost use Rattle.protocol.specs.View.{view, Kept, MayHold, Step, Commits, lastBelow, termBelow, loggedSet};
 

@@ -19,8 +19,8 @@ use phy::packet::Packet;
 use phy::packet::Piggyback;
 ghost use mathlib.Core.Path.{_≡_};
 ghost use Prim.Native.Nat.{_-_, _<_, _≤_};
-ghost use Rattle.config.specs.Limits.{maxTerms};
-ghost use Rattle.protocol.specs.Paxos.{wordBits, vote};
+ghost use Rattle.config.specs.Limits.{wordBits, maxTerms};
+ghost use Rattle.protocol.specs.Paxos.{vote};
 ghost use Rattle.protocol.specs.Turns.{nack, counted, currentTerm, proposalData, propose, announce, takeData, takePiggyback};
 ghost use Rattle.protocol.specs.View.{Kept, Step, Reaches, TermsBelow, MayInitiate, proposalBelow, backBelow, Announces, Initiates, Takes};
 
@@ -59,7 +59,7 @@ fn nack_of(gap: Gap) -> Nack
 }
 
 // The term before the counter, 0 at 0.
-fn before(counter: u64) -> u64
+fn term_before(counter: u64) -> u64
     ensures { λ r. ⌜ r ≡ counter - 1 ⌝ }
 {
     if counter == 0 {
@@ -102,7 +102,7 @@ fn current_term(counter: u64, proposes: bool) -> Term
     if proposes {
         return Term(counter);
     }
-    Term(before(counter))
+    Term(term_before(counter))
 }
 
 // The data of the new proposal, or none.

@@ -9,7 +9,7 @@ use native.Mathlib.Omega.{arith}
 use borrow.Author.Count.{below-more}
 use lib.ListN.{length, getD, set, length-set}
 use lib.Seq.{ext-getD, getD-set-same, getD-set-other}
-use Rattle.random.specs.Table.{tabulate, Put}
+use Rattle.random.specs.Table.{tabulate, Placed}
 
 pub length-tabulate : {A : Type 0} (n : ℕ) (f : ℕ → A) → length (tabulate n f) ≡ n
 unfolding tabulate
@@ -67,11 +67,11 @@ pub filled-all : {f : ℕ → ℕ} {n : ℕ} {l : List ℕ} {i : ℕ} → Filled
 filled-all {f} {n} {l} d h = is-tabulate n f 0 l (d .size) (λ k b. d .places k (omega arith))
 
 -- words put in place one after the other
-pub put-none : (from l : List ℕ) (at : ℕ) → Put from at 0 l l
-put-none from l at = record { size = refl; kept = λ k h. refl; placed = λ k h. absurd (omega arith) }
+pub placed-none : (from l : List ℕ) (at : ℕ) → Placed from at 0 l l
+placed-none from l at = record { size = refl; kept = λ k h. refl; placed = λ k h. absurd (omega arith) }
 
-pub put-more : {from l₀ l : List ℕ} {at i : ℕ} → Put from at i l₀ l → Put from at (i + 1) l₀ (set l (at + i) (getD from i 0))
-put-more {from} {l₀} {l} {at} {i} d =
+pub placed-more : {from l₀ l : List ℕ} {at i : ℕ} → Placed from at i l₀ l → Placed from at (i + 1) l₀ (set l (at + i) (getD from i 0))
+placed-more {from} {l₀} {l} {at} {i} d =
     let v = getD from i 0 in
     record {
       size = length-set l (at + i) v ∙ d .size;

@@ -1,5 +1,5 @@
 -- ChaCha (RFC 8439, sections 2.1 to 2.3), with the number of double rounds as a parameter, and the key stream of document 01.
-use Prim.Native.Nat.{ℕ, zero, suc, _+_, _/_, _%_, _^_}
+use Prim.Native.Nat.{ℕ, zero, suc, _+_, _/_, _%_, _^_, _<_}
 use mathlib.Core.List.{List, [], _∷_, _++_}
 use lib.ListN.{getD, set}
 use lib.Bits.{bitXor}
@@ -19,6 +19,13 @@ quarter q =
     let c₂ = plus c₁ d₂ in
     let b₂ = rotateLeft (bitXor b₁ c₂) 7 in
     record { a = a₂; b = b₂; c = c₂; d = d₂ }
+
+-- four places of a state
+pub record Places (x y z w : ℕ) : Type 0 where
+  pub a : x < 16
+  pub b : y < 16
+  pub c : z < 16
+  pub d : w < 16
 
 -- 2.2: QUARTERROUND(x, y, z, w) on the words of a state at these places
 unfoldable pub quarterAt : List ℕ → ℕ → ℕ → ℕ → ℕ → List ℕ

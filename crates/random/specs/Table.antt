@@ -10,7 +10,7 @@ tabulate zero f = []
 tabulate (suc n) f = f zero ∷ tabulate n (λ (i : ℕ). f (suc i))
 
 -- the first n words of `from` have been put in place from `at` on, as far as there are places, and before them nothing has changed
-pub record Put (from : List ℕ) (at n : ℕ) (before after : List ℕ) : Type 0 where
+pub record Placed (from : List ℕ) (at n : ℕ) (before after : List ℕ) : Type 0 where
   pub size : length after ≡ length before
   pub kept : (i : ℕ) → i < at → getD after i 0 ≡ getD before i 0
   pub placed : (i : ℕ) → i < n → at + i < length before → getD after (at + i) 0 ≡ getD from i 0

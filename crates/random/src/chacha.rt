@@ -1,6 +1,5 @@
 // ChaCha after RFC 8439, section 2, with the number of double rounds as a parameter.
 ghost use mathlib.Core.Path.{_≡_};
-ghost use Prim.Native.Nat.{_<_};
 ghost use lib.ListN.{getD};
 ghost use Rattle.random.specs.ChaCha as ChaCha;
 ghost use Rattle.random.specs.TurnedRows.{turnedRows};
@@ -36,7 +35,7 @@ pub fn quarter_round(q: Quad) -> Quad
 
 // The quarter round on the words at four places of the state.
 fn quarter_of(s: [u32; 16], x: usize, y: usize, z: usize, w: usize) -> Quad
-    requires { ⌜ (x < 16) × (y < 16) × (z < 16) × (w < 16) ⌝ }
+    requires { ⌜ ChaCha.Places x y z w ⌝ }
     ensures { λ r. ⌜ r ≡ ChaCha.quarter (record { a = getD s x 0; b = getD s y 0; c = getD s z 0; d = getD s w 0 }) ⌝ }
 {
     quarter_round(Quad {

@@ -4,7 +4,7 @@ ghost use Prim.Native.Nat.{ℕ, _+_, _*_, _^_, _≤_};
 ghost use lib.ListN.{length};
 ghost use Rattle.random.specs.ChaCha as ChaCha;
 ghost use Rattle.random.specs.Draws.{streamSize, Keyed, Before, Holds, draw};
-ghost use Rattle.random.specs.Table.{tabulate, Put};
+ghost use Rattle.random.specs.Table.{tabulate, Placed};
 use super::chacha::block;
 use super::seed::key_of;
 
@@ -33,9 +33,9 @@ fn pair(low: u32, high: u32) -> u64
 }
 
 // Copies words to the stream, from the place `at` on.
-fn put(words: &[u32], stream: &mut [u32; STREAM_SIZE], at: usize)
+fn place_words(words: &[u32], stream: &mut [u32; STREAM_SIZE], at: usize)
     requires { ⌜ at + length (now words) ≤ streamSize ⌝ }
-    ensures { λ _. ⌜ Put (now (words .entry)) at (length (now (words .entry))) (now (stream .entry)) (now (stream .exit)) ⌝ }
+    ensures { λ _. ⌜ Placed (now (words .entry)) at (length (now (words .entry))) (now (stream .entry)) (now (stream .exit)) ⌝ }
 {
     for i in 0..words.len() {
         stream[at + i] = words[i];
@@ -48,7 +48,7 @@ pub fn begin_draws(seed: u64) -> [u32; STREAM_SIZE]
 {
     let key = key_of(seed);
     let mut stream = [0u32; STREAM_SIZE];
-    put(&key, &mut stream, 0);
+    place_words(&key, &mut stream, 0);
     stream
 }
 
@@ -67,7 +67,7 @@ fn fill(stream: &mut [u32; STREAM_SIZE], counter: u64)
         stream[7],
     ];
     let block = stream_block(key, counter);
-    put(&block, stream, KEY_SIZE);
+    place_words(&block, stream, KEY_SIZE);
 }
 
 // Draw k, where it is next. A block is computed when the first of its eight draws is taken.

@@ -3,100 +3,52 @@
 // program `inputs` (small, random and broken), so that each end, lossy runs, NACKs, piggybacks,
 // graphs given by rows and refusals are among them. `stdout` is what `oracle/`'s program `answer`
 // prints for `stdin`.
+use config::limits::LISTED_SIZE;
+use config::limits::LOG_SIZE;
+use config::limits::MAX_NODES;
+use config::limits::RECORDS_SIZE;
 use libc::STDIN_FILENO;
 use libc::STDOUT_FILENO;
 use line::asked::config_of;
+use line::numeral::Number;
+use line::numeral::decimal;
+use line::numeral::numeral;
 use line::read::Line;
 use line::read::Read;
+use line::read::field;
+use line::read::field_start;
 use line::read::read_line;
+use line::read::until;
+use listing::write::LISTING_SIZE;
 use listing::write::write_listing;
 use listing::write::write_refusal;
-use random::word::wrapping_mul_u64;
 use rules::answer::Answer;
 use sim::entries::run_rows;
-use std::num::wrapping_add_u64;
 ghost use Prim.Native.Nat.{_≤_};
 ghost use mathlib.Core.Path.{_≡_};
 ghost use lib.ListN.{length};
+ghost use Rattle.config.specs.Limits.{maxNodes};
+ghost use Rattle.listing.specs.Listing.{listingMost};
 
 const INPUT: usize = 131072;
-
-// No listing has more than 165,403 bytes.
-const OUTPUT: usize = 166000;
 
 // More than a readable configuration has.
 const CONFIG: usize = 256;
 
-// The sets of 32 nodes, and one too many.
-const SETS: usize = 33;
+// The sets of all nodes, and one too many.
+const SETS: usize = MAX_NODES + 1;
 
-// How many bytes stand before the first `stop`: all of them where there is none.
-fn until(s: &[u8], stop: u8) -> usize
-    ensures { λ r. ⌜ r ≤ length (now (s .entry)) ⌝ }
-{
-    for i in 0..s.len() {
-        if s[i] == stop {
-            return i;
-        }
-    }
-    s.len()
-}
-
-// Where field k starts: behind the k-th space, or the line's end.
-fn field_start(line: &[u8], k: usize) -> usize
-    ensures { λ r. ⌜ r ≤ length (now (line .entry)) ⌝ }
-{
-    let mut left = k;
-    for i in 0..line.len() {
-        if left == 0 {
-            return i;
-        }
-        if line[i] == b' ' {
-            left -= 1;
-        }
-    }
-    line.len()
-}
-
-// Field k of a line.
-fn field(line: &[u8], k: usize) -> &[u8] {
-    let start = field_start(line, k);
-    let rest = &line[start..];
-    let end = until(rest, b' ');
-    &rest[..end]
-}
-
-// The digit that a byte stands for, 0 of any other byte.
-fn digit(byte: u8) -> u64 {
-    if byte < 48 {
-        return 0;
-    }
-    if byte <= 57 {
-        return (byte - 48) as u64;
-    }
-    if byte < 97 {
-        return 0;
-    }
-    (byte - 87) as u64
-}
-
-// The number that digits stand for, modulo 2^64.
-fn number(base: u64, digits: &[u8]) -> u64 {
-    let mut n = 0;
-    for i in 0..digits.len() {
-        n = wrapping_add_u64(wrapping_mul_u64(n, base), digit(digits[i]));
-    }
-    n
-}
-
-// The set that 8 hexadecimal digits stand for.
+// The set that 8 hexadecimal digits stand for, the empty set where they stand for none.
 fn set_of(digits: &[u8]) -> u32 {
-    (number(16, digits) % 0x1_0000_0000) as u32
+    match numeral(16, digits) {
+        Number::Of(n) => (n % 0x1_0000_0000) as u32,
+        Number::Unreadable => 0,
+    }
 }
 
 // Set i of sets of 8 digits with commas between them, the empty set behind the last.
 fn set_at(s: &[u8], i: usize) -> u32
-    requires { ⌜ i ≤ 32 ⌝ }
+    requires { ⌜ i ≤ maxNodes ⌝ }
 {
     if 9 * i + 8 <= s.len() {
         return set_of(&s[9 * i..9 * i + 8]);
@@ -147,11 +99,11 @@ fn read_config(rest: &[u8]) -> Read {
 
 // Runs the rows, and lays the listing or refusal over the buffer.
 fn run_sets(rows: &[u32], nodes: u64, line: Line, out: &mut [u8]) -> usize
-    ensures { λ r. ⌜ r ≤ 165403 ⌝ }
+    ensures { λ r. ⌜ r ≤ listingMost ⌝ }
 {
-    let mut logs = [0u8; 2080];
-    let mut records = [0u64; 192];
-    let mut snapshots = [0u64; 5000];
+    let mut logs = [0u8; LOG_SIZE];
+    let mut records = [0u64; RECORDS_SIZE];
+    let mut snapshots = [0u64; LISTED_SIZE];
     let config = config_of(line);
     let answer = run_rows(rows, nodes, config, &mut logs, &mut records, &mut snapshots);
     match answer {
@@ -162,12 +114,14 @@ fn run_sets(rows: &[u32], nodes: u64, line: Line, out: &mut [u8]) -> usize
 
 // The answer to a line `rows nodes SETS`, followed by the configuration.
 fn answer_rows(line: &[u8], out: &mut [u8]) -> usize
-    ensures { λ r. ⌜ r ≤ 165403 ⌝ }
+    ensures { λ r. ⌜ r ≤ listingMost ⌝ }
 {
+    let Number::Of(nodes) = decimal(field(line, 1)) else {
+        return write_refusal(12, out);
+    };
     let text = field(line, 2);
     let rows = sets(text);
     let count = smaller((text.len() + 1) / 9, SETS);
-    let nodes = number(10, field(line, 1));
     let at = field_start(line, 3);
     match read_config(&line[at..]) {
         Read::Line(l) => run_sets(&rows[..count], nodes, l, out),
@@ -184,7 +138,7 @@ fn is_rows(line: &[u8]) -> bool {
 }
 
 fn answer(line: &[u8], out: &mut [u8]) -> usize
-    ensures { λ r. ⌜ r ≤ 165403 ⌝ }
+    ensures { λ r. ⌜ r ≤ listingMost ⌝ }
 {
     if is_rows(line) {
         return answer_rows(line, out);
@@ -194,7 +148,7 @@ fn answer(line: &[u8], out: &mut [u8]) -> usize
 
 // Answers one line after another.
 fn replay(input: &[u8]) {
-    let mut out = [0u8; OUTPUT];
+    let mut out = [0u8; LISTING_SIZE];
     let mut at = 0;
     while at < input.len() {
         let end = at + until(&input[at..], b'\n');

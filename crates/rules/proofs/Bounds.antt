@@ -1,12 +1,11 @@
 -- Bounds on the counts of every accepted run. Assumes nothing.
 use Prim.Native.Nat.{ℕ, zero, suc, _+_, _-_, _*_, _/_, _≤_, _<_, zero-le}
-use mathlib.Core.List.{List, [], _∷_}
+use mathlib.Core.List.{[], _∷_}
 use mathlib.Core.Path.{_≡_, refl, sym, ap, _∙_, subst}
 use native.Mathlib.Nat.{mul-le-mul, mul-le-mul-right, div-le-of-le-mul}
 use native.Mathlib.Omega.{arith}
 use lib.ListN.{length, replicate, length-append, getD-replicate}
 use Rattle.network.proofs.Sets.{count-le}
-use Rattle.phy.specs.declared.node.Node.{Node}
 use Rattle.phy.specs.Node.{new, total}
 use Rattle.phy.specs.Slot.{Setup, at}
 use Rattle.phy.specs.Round.{Flooded, round}

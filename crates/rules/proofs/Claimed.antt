@@ -10,7 +10,7 @@ use borrow.Author.Tests.{eqb-true, eqb-false, lt-ltb, le-ltb, ltb-true, ltb-fals
 use lib.Dec.{leb, ltb, eqb}
 use Rattle.phy.specs.declared.packet.LastAccepted.{LastAccepted}
 use Rattle.protocol.specs.declared.paxos.Gap.{Gap}
-use Rattle.protocol.specs.Paxos.{Entry, Pending, State, union, logged, isSome, held, put, hold, voted, mergeVotesUpTo, majority, size, quorum, greatestQuorum, entry, raise, after, commitTerm, commitBelow, commitTo, gapIn, detectGap}
+use Rattle.protocol.specs.Paxos.{Entry, Pending, State, union, logged, isSome, held, updated, hold, voted, mergeVotesUpTo, majority, size, quorum, greatestQuorum, entry, raise, after, commitTerm, commitBelow, commitTo, gapIn, detectGap}
 use Rattle.protocol.specs.Growth.{dataFor}
 use Rattle.protocol.proofs.Places.{either, same-or}
 use Rattle.protocol.proofs.Logs.{logged-append}
@@ -111,10 +111,10 @@ module _ (c m : ℕ) (v : ℕ → ℕ) where
 pub commit-one : (c m : ℕ) (v : ℕ → ℕ) → c < m → commitTerm c (node c m v) ≡ node (suc c) m v
 unfolding commitTerm entries
 commit-one c m v h =
-    ap (λ (b : Bool). cond b (node c m v) (record { log = entries c ++ entry c (waits c m v c); pending = put c none (waits c m v); last = raise c (lastOf c) })) (not-logged c c (omega arith))
+    ap (λ (b : Bool). cond b (node c m v) (record { log = entries c ++ entry c (waits c m v c); pending = updated c none (waits c m v); last = raise c (lastOf c) })) (not-logged c c (omega arith))
     ∙ state-is (ap (λ (o : Option Pending). entries c ++ entry c o) (waits-in c m v c (omega arith) h)) left (raised c)
   where
-    left : (t : ℕ) → put c none (waits c m v) t ≡ waits (suc c) m v t
+    left : (t : ℕ) → updated c none (waits c m v) t ≡ waits (suc c) m v t
     left t =
         same-or (λ (b : Bool). cond b none (waits c m v t) ≡ waits (suc c) m v t) t c (λ q. sym (waits-low (suc c) m v t (omega arith)))
         (λ q.
@@ -177,7 +177,7 @@ module _ (c m : ℕ) (v : ℕ → ℕ) where
   unfolding hold
   hold-next w x l same own = state-is refl there refl
     where
-      there : (t : ℕ) → put m (waiting m x) (waits c m v) t ≡ waits c (suc m) w t
+      there : (t : ℕ) → updated m (waiting m x) (waits c m v) t ≡ waits c (suc m) w t
       there t =
           same-or (λ (b : Bool). cond b (waiting m x) (waits c m v t) ≡ waits c (suc m) w t) t m
           (λ q. subst (λ (y : ℕ). waiting m x ≡ waits c (suc m) w y) (sym q) (ap (waiting m) own ∙ sym (waits-in c (suc m) w m l (omega arith))))

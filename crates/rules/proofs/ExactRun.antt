@@ -8,7 +8,7 @@ use mathlib.Core.Path.{_≡_, refl, sym, ap, ap₂, _∙_, subst}
 use native.Mathlib.Nat.{mod-lt, mul-le-mul-right}
 use native.Mathlib.Omega.{arith}
 use lib.ListN.{length, getElem?, replicate, length-append, length-replicate, getD-replicate}
-use Rattle.network.specs.Graph.{has, Checked}
+use Rattle.network.specs.Graph.{has}
 use Rattle.network.specs.Distance.{diameter}
 use Rattle.random.specs.Table.{tabulate}
 use Rattle.network.proofs.Sets.{has-setOf}

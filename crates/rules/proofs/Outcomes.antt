@@ -1,7 +1,7 @@
 -- What the answer of `diameter` says of the questions, and the outcome after each graph's own. Assumes nothing.
 use Prim.Native.Nat.{ℕ}
 use mathlib.Core.Path.{_≡_, refl, sym, ap, ap₂, _∙_}
-use mathlib.Core.List.{List, _++_}
+use mathlib.Core.List.{List}
 use mathlib.Core.Option.{Option, none, some}
 use native.Mathlib.Omega.{arith}
 use lib.ListN.{length}

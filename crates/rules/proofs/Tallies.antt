@@ -15,7 +15,7 @@ use Rattle.phy.specs.declared.packet.Data.{Data}
 use Rattle.phy.specs.declared.packet.LastAccepted.{LastAccepted}
 use Rattle.phy.specs.declared.packet.Packet.{Packet}
 use Rattle.phy.specs.declared.packet.Piggyback.{Piggyback}
-use Rattle.protocol.specs.Paxos.{Entry, State, logged, vote, held, put, hold, holdNew, mergeVotesUpTo, raise, entry, greatestQuorum, commitTerm, commitBelow, commitTo, newlyBelow, newlyTo}
+use Rattle.protocol.specs.Paxos.{Entry, State, logged, vote, held, updated, hold, holdNew, mergeVotesUpTo, raise, entry, greatestQuorum, commitTerm, commitBelow, commitTo, newlyBelow, newlyTo}
 use Rattle.protocol.specs.Turns.{propose, announce, initiatorTurn, takeData, takePiggyback, takeVotes, participantTurn}
 use Rattle.protocol.specs.View.{lastBelow}
 use Rattle.pipeline.specs.Round.{Record, Shared, stateOf, recorded, recordAll, prepareRound, takeTurn, turns, cleared, processRound}
@@ -70,7 +70,7 @@ low-below (suc k) s h l = go (logged k (commitBelow k s .log)) (low-below k s (o
     raised (LastAccepted.At u) l = omega (arith, l)
 
     go : (b : Bool) → Low (commitBelow k s)
-        → lastBelow 64 (cond b (commitBelow k s) (record { log = commitBelow k s .log ++ entry k (commitBelow k s .pending k); pending = put k none (commitBelow k s .pending); last = raise k (commitBelow k s .last) }) .last)
+        → lastBelow 64 (cond b (commitBelow k s) (record { log = commitBelow k s .log ++ entry k (commitBelow k s .pending k); pending = updated k none (commitBelow k s .pending); last = raise k (commitBelow k s .last) }) .last)
     go true l = l
     go false l = raised (commitBelow k s .last) l
 

@@ -2,6 +2,7 @@
 use Prim.Native.Nat.{ℕ, _+_, _-_, _*_, _/_, _^_, _≤_, _<_}
 use mathlib.Core.List.{List}
 use mathlib.Core.Path.{_≡_}
+use Rattle.config.specs.Limits.{maxTerms, maxRoundSlots, mostRounds}
 use Rattle.phy.specs.Round.{lengthLimit}
 use Rattle.metrics.specs.declared.summary.Summary.{Summary}
 use Rattle.config.specs.declared.Config.{Config}
@@ -26,10 +27,10 @@ together s =
 pub record Bounds (g : Given) (s : Summary) : Type 0 where
   pub nodes : s .nodes ≡ g .nodes
   -- at most P + 1,002 rounds, each of at most 4,096 slots
-  pub rounds : s .rounds ≤ g .proposals + 1002
+  pub rounds : s .rounds ≤ mostRounds (g .proposals)
   pub slots : s .slots ≤ s .rounds * longest g
-  pub round-slots : longest g ≤ 4096
-  pub slots-most : s .slots ≤ 1066 * 4096
+  pub round-slots : longest g ≤ maxRoundSlots
+  pub slots-most : s .slots ≤ mostRounds maxTerms * maxRoundSlots
   -- in every slot each node listens, floods or sleeps
   pub each-slot : s .listen + s .flood + s .sleep ≡ g .nodes * s .slots
   -- in every slot each node makes at most one attempt at each node
@@ -42,7 +43,7 @@ pub record Bounds (g : Given) (s : Summary) : Type 0 where
   -- at most one NACK a round, and one piggyback a round and node
   pub nacks : s .nacks ≤ s .rounds
   pub piggybacks : s .piggybacks ≤ g .nodes * s .rounds
-  pub records : s .records ≤ 64
+  pub records : s .records ≤ maxTerms
   -- slots over interval, rounded up
   pub snapshots : s .snapshots ≡ (s .slots + g .interval - 1) / g .interval
   -- so all counts fit in 40 bits, even their sum

@@ -5,6 +5,7 @@ use mathlib.Core.List.{List}
 use mathlib.Core.Option.{some}
 use mathlib.Core.Path.{_≡_}
 use lib.ListN.{length, getD, getElem?}
+use Rattle.config.specs.Limits.{maxTerms, recordSize, logCounts}
 use Rattle.network.specs.Distance.{links, distance, eccentricity, Joined}
 use Rattle.network.specs.Questions.{nodesOf}
 use Rattle.random.specs.Table.{tabulate}
@@ -64,16 +65,16 @@ pub record ExactRound (g : Given) (k : ℕ) (p : Past) : Type 0 where
 -- Record t in the buffer: its id is t, it starts at the first slot of round t and ends at that of round t + floor(n/2). So its latency is
 -- the summed length of rounds t to t + floor(n/2) - 1.
 pub record ExactRecord (g : Given) (records : List ℕ) (t : ℕ) : Type 0 where
-  pub id : getD records (3 * t) 0 ≡ t
-  pub start : getD records (3 * t + 1) 0 ≡ firstSlot g t
-  pub end : getD records (3 * t + 2) 0 ≡ firstSlot g (t + g .nodes / 2)
-  pub latency : getD records (3 * t + 2) 0 - getD records (3 * t + 1) 0 ≡ sum (g .nodes / 2) (λ (i : ℕ). slotsIn g (t + i))
+  pub id : getD records (recordSize * t) 0 ≡ t
+  pub start : getD records (recordSize * t + 1) 0 ≡ firstSlot g t
+  pub end : getD records (recordSize * t + 2) 0 ≡ firstSlot g (t + g .nodes / 2)
+  pub latency : getD records (recordSize * t + 2) 0 - getD records (recordSize * t + 1) 0 ≡ sum (g .nodes / 2) (λ (i : ℕ). slotsIn g (t + i))
 
 -- Node j's log after the run holds exactly the terms 0 to P - 1, in order; in the buffer its count is P and its terms are those.
 pub record ExactLog (g : Given) (e : Ended) (logs : List ℕ) (j : ℕ) : Type 0 where
   pub held : terms (stateOf (e .running .shared .states) j .log) ≡ tabulate (g .proposals) (λ (t : ℕ). t)
-  pub count : getD logs (2048 + j) 0 ≡ g .proposals
-  pub term-at : (t : ℕ) → t < g .proposals → getD logs (64 * j + t) 0 ≡ t
+  pub count : getD logs (logCounts + j) 0 ≡ g .proposals
+  pub term-at : (t : ℕ) → t < g .proposals → getD logs (maxTerms * j + t) 0 ≡ t
 
 -- ---- the run
 
@@ -92,7 +93,9 @@ pub record ExactRounds (g : Given) (e : Ended) (s : Summary) (logs records : Lis
   pub sleep : s .sleep ≡ sum (roundsOf g) (λ (k : ℕ). sum (g .nodes) (λ (j : ℕ). farthest g k - distanceIn g k j))
   -- exactly P records, in order of id
   pub proposals : s .records ≡ g .proposals
-  pub recorded : e .running .shared .records ≡ tabulate (g .proposals) (λ (t : ℕ). record { id = t; start = firstSlot g t; end = firstSlot g (t + g .nodes / 2) })
+  pub recorded :
+      e .running .shared .records
+      ≡ tabulate (g .proposals) (λ (t : ℕ). record { id = t; start = firstSlot g t; end = firstSlot g (t + g .nodes / 2) })
   pub record-at : (t : ℕ) → t < g .proposals → ExactRecord g records t
   -- every log
   pub log-of : (j : ℕ) → j < g .nodes → ExactLog g e logs j

@@ -6,7 +6,6 @@ use lib.Dec.{leb, ltb, eqb}
 use lib.ListN.{length, replicate}
 use Rattle.config.specs.Limits.{extraRounds, mostRounds}
 use Rattle.network.specs.Graph.{all}
-use Rattle.phy.specs.declared.node.Node.{Node}
 use Rattle.phy.specs.declared.packet.Packet.{Packet}
 use Rattle.phy.specs.declared.packet.Piggyback.{Piggyback}
 use Rattle.config.specs.declared.RoundSlots.{RoundSlots}

@@ -1,14 +1,12 @@
 -- The summary and the buffers of a run that has stopped. Assumes nothing.
-use Prim.Native.Nat.{ℕ, _*_, _≤_}
+use Prim.Native.Nat.{ℕ, _*_}
 use mathlib.Core.Path.{_≡_, sym, ap, _∙_}
 use mathlib.Core.List.{List}
-use native.Mathlib.Omega.{arith}
-use lib.ListN.{length}
 use lib.Seq.{sets}
 use Rattle.config.specs.Limits.{mostRounds}
 use Rattle.metrics.specs.declared.summary.Summary.{Summary}
 use Rattle.protocol.specs.Paxos.{State}
-use Rattle.pipeline.specs.Round.{Record, Shared}
+use Rattle.pipeline.specs.Round.{Shared}
 use Rattle.pipeline.specs.View.{statesOf, recordsOf, sharedOf}
 use Rattle.rules.specs.Run.{run}
 use Rattle.rules.specs.Answers.{ran}

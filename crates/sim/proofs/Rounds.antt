@@ -1,28 +1,25 @@
 -- One round of the code beside one of the definitions. Assumes nothing.
 use Prim.Native.Nat.{ℕ, _+_, _*_, _%_, _≤_, _<_}
-use mathlib.Core.Path.{_≡_, sym, ap, ap₂, subst, subst⁻¹, _∙_}
+use mathlib.Core.Path.{_≡_, ap, ap₂, subst, subst⁻¹, _∙_}
 use mathlib.Core.List.{List}
 use native.Mathlib.Nat.{mod-lt}
 use native.Mathlib.Omega.{arith}
 use Rattle.config.specs.Limits.{maxTerms, maxNodes, mostRounds}
-use Rattle.network.specs.declared.units.NodeId.{NodeId}
 use Rattle.phy.specs.declared.ci.Round.{Round}
-use Rattle.phy.specs.declared.packet.Packet.{Packet}
 use Rattle.phy.specs.declared.slot.Flood.{Flood}
 use Rattle.phy.specs.declared.slot.Settings.{Settings}
-use Rattle.phy.specs.Slot.{Setup, Standing}
+use Rattle.phy.specs.Slot.{Setup}
 use Rattle.phy.specs.Round.{Flooded, lengthLimit, round}
 use Rattle.phy.specs.View.{Lent, Sound, Stands, CanFlood, Rounded, asSetup}
 use Rattle.pipeline.specs.declared.carry.Carry.{Carry}
 use Rattle.pipeline.specs.declared.round.PreparedRound.{PreparedRound}
-use Rattle.pipeline.specs.Round.{Shared, Prepared, prepareRound, processRound}
+use Rattle.pipeline.specs.Round.{Prepared, prepareRound, processRound}
 use Rattle.pipeline.specs.View.{sharedOf, MayPrepare, Prepares, MayProcess, Processes}
 use Rattle.rules.specs.Accepted.{Accepted}
-use Rattle.rules.specs.Run.{Given, Running, setupOf, preparedIn, floodedIn, runRound}
+use Rattle.rules.specs.Run.{Given, Running, preparedIn, floodedIn, runRound}
 use Rattle.rules.proofs.Rounds.{limit-few, covered-few}
 use Rattle.sim.specs.declared.run.Plan.{Plan}
 use Rattle.sim.specs.declared.run.Run.{Run}
-use Rattle.sim.specs.declared.run.Played.{Played}
 use Rattle.sim.specs.Going.{planned, settingsOf, Workspace, workspace, lentOf, Shows, Steady, Going, Plays}
 
 -- what holds between slots does not speak of the progress

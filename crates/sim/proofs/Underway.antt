@@ -1,6 +1,6 @@
 -- A run of the code between rounds: its first round, one round more, and its ends. Assumes nothing.
 use Prim.Native.Nat.{ℕ, suc, _+_, _-_, _*_, _≤_, _<_}
-use mathlib.Core.Path.{_≡_, refl, sym, ap, subst, subst⁻¹, _∙_}
+use mathlib.Core.Path.{_≡_, refl, sym, ap, subst⁻¹, _∙_}
 use mathlib.Core.Bool.{Bool, false, cond, _&&_}
 use mathlib.Core.List.{List}
 use native.Mathlib.Nat.{le-refl}
@@ -9,7 +9,7 @@ use native.Mathlib.Omega.{arith}
 use lib.Dec.{leb, eqb, ltb}
 use lib.ListN.{length, replicate}
 use borrow.Author.Tests.{le-leb, lt-leb, eq-eqb, ne-eqb}
-use Rattle.config.specs.Limits.{maxTerms, mostRounds, extraRounds}
+use Rattle.config.specs.Limits.{maxTerms, extraRounds}
 use Rattle.random.specs.Reception.{Source}
 use Rattle.random.proofs.Stream.{source-begins}
 use Rattle.random.proofs.Tables.{length-tabulate}
@@ -26,7 +26,8 @@ use Rattle.sim.specs.declared.run.Plan.{Plan}
 use Rattle.sim.specs.declared.run.Run.{Run}
 use Rattle.sim.specs.declared.run.Played.{Played}
 use Rattle.sim.specs.declared.run.Stopped.{Stopped}
-use Rattle.sim.specs.Going.{planned, settingsOf, Workspace, Shows, Steady, Going, Plays, CanGo, Underway, Goes, NewRun}
+use Rattle.sim.specs.declared.survey.Progress.{Progress}
+use Rattle.sim.specs.Going.{planned, settingsOf, Workspace, Shows, Steady, Plays, Surveys, CanGo, Underway, Goes, NewRun}
 
 -- ---- what the code shows
 
@@ -141,8 +142,7 @@ module _ {graph : List ℕ} {p : Plan} {most : ℕ} {b₀ : List ℕ} where
 
       -- after one round more, whose end is told by what the survey of the logs saw
       module _ (below : x .flood .slot .0 < p .config .«max_slots») {r : Played} {w' : Workspace} (pl : Plays graph p k x w r w')
-          {shortest : ℕ} {done : Bool} (seen : shortest ≡ shortestLog (statesOf (p .nodes) (w' .states)) (p .nodes))
-          (all : done ≡ complete (p .nodes) (p .config .«num_proposals») (statesOf (p .nodes) (w' .states))) where
+          {logs : Progress} (seen : Surveys (p .nodes) (p .config .«num_proposals») (w' .states) logs) where
         abbrev next : Running
         next = runRound (planned graph p) k (u .here)
 
@@ -156,22 +156,22 @@ module _ {graph : List ℕ} {p : Plan} {most : ℕ} {b₀ : List ℕ} where
         rounds = rounds-more (planned graph p) k (u .here) ∙ ap (λ (m : ℕ). m + 1) (u .going .rounds)
 
         abbrev told : ℕ
-        told = cond done 1 (cond (eqb (r .run .carry .recorded .count) (p .config .«num_proposals») && ltb (p .config .«num_proposals» + 5 * p .diameter) k) 2 (cond (ltb (p .config .«num_proposals» + extraRounds) k) 3 0))
+        told = cond (logs .complete) 1 (cond (eqb (r .run .carry .recorded .count) (p .config .«num_proposals») && ltb (p .config .«num_proposals» + 5 * p .diameter) k) 2 (cond (ltb (p .config .«num_proposals» + extraRounds) k) 3 0))
 
         end-is : told ≡ endAfter (planned graph p) k next
         unfolding endAfter
         end-is = λ i.
-            cond ((all ∙ ap (complete (p .nodes) (p .config .«num_proposals»)) (states-are shown)) i) 1
+            cond ((seen .complete ∙ ap (complete (p .nodes) (p .config .«num_proposals»)) (states-are shown)) i) 1
             (cond (eqb (count-is shown i) (p .config .«num_proposals») && ltb (p .config .«num_proposals» + 5 * p .diameter) k) 2 (cond (ltb (p .config .«num_proposals» + extraRounds) k) 3 0))
 
-        pub at-end : (end : ℕ) → end ≡ told → (end ≡ 0 → ⊥) → Goes graph p most (record { run = showing shortest (r .run); rounds = k + 1; ended = end }) b₀ w'
+        pub at-end : (end : ℕ) → end ≡ told → (end ≡ 0 → ⊥) → Goes graph p most (record { run = showing (logs .shortest) (r .run); rounds = k + 1; ended = end }) b₀ w'
         at-end end e q =
             let same : endAfter (planned graph p) k next ≡ end = sym (e ∙ end-is) in
             goes-as (record { running = next; ended = endAfter (planned graph p) k next })
             (sym from-here ∙ from-end (planned graph p) (most - (k + 1)) k (u .here) under (ap (λ (m : ℕ). eqb m 0) same ∙ ne-eqb end 0 q))
             (shows-as shown) (steady-as (pl .steady)) rounds (sym same) (omega (arith, more))
 
-        pub goes-on : (end : ℕ) → end ≡ told → end ≡ 0 → Underway graph p most (k + 1) (showing shortest (r .run)) w' b₀
+        pub goes-on : (end : ℕ) → end ≡ told → end ≡ 0 → Underway graph p most (k + 1) (showing (logs .shortest) (r .run)) w' b₀
         goes-on end e z =
             record {
               here = next;
@@ -179,7 +179,7 @@ module _ {graph : List ℕ} {p : Plan} {most : ℕ} {b₀ : List ℕ} where
                 shows = shows-as shown;
                 steady = steady-as (pl .steady);
                 rounds = rounds;
-                progress = seen ∙ ap (λ (y : List State). shortestLog y (p .nodes)) (states-are shown);
+                progress = seen .shortest ∙ ap (λ (y : List State). shortestLog y (p .nodes)) (states-are shown);
               };
               rest =
                   ap (λ (m : ℕ). roundsFrom (planned graph p) (most - (k + 1)) m next) (add-one k)

@@ -12,15 +12,16 @@ use Rattle.phy.specs.declared.slot.Flood.{Flood}
 use Rattle.phy.specs.Limits.{heldSize}
 use Rattle.phy.specs.View.{Lent, lent, Sound, Stands}
 use Rattle.pipeline.specs.Round.{shortestLog}
-use Rattle.pipeline.specs.View.{Sharing, sharedOf, tableSize, historySize}
+use Rattle.pipeline.specs.View.{AllKept, statesOf, Sharing, sharedOf, tableSize, historySize}
 use Rattle.metrics.specs.declared.summary.Summary.{Summary}
 use Rattle.rules.specs.Accepted.{Accepted}
 use Rattle.rules.specs.Entries.{givenAs}
-use Rattle.rules.specs.Run.{Given, Running, begin, preparedIn, floodedIn, runRound, roundsFrom, runFor}
+use Rattle.rules.specs.Run.{Given, Running, begin, complete, preparedIn, floodedIn, runRound, roundsFrom, runFor}
 use Rattle.sim.specs.declared.run.Plan.{Plan}
 use Rattle.sim.specs.declared.run.Run.{Run}
 use Rattle.sim.specs.declared.run.Played.{Played}
 use Rattle.sim.specs.declared.run.Stopped.{Stopped}
+use Rattle.sim.specs.declared.survey.Progress.{Progress}
 
 -- the run of a graph that a plan asks for
 abbrev pub planned : List ℕ → Plan → Given
@@ -98,10 +99,24 @@ pub record Plays (graph : List ℕ) (p : Plan) (k : ℕ) (x : Run) (w : Workspac
   pub packet : (b₀ : List ℕ) (s : Running) → Going graph p k x w b₀ s → r .packet ≡ preparedIn (planned graph p) k s .packet
   pub part : (b₀ : List ℕ) (s : Running) → Going graph p k x w b₀ s → r .part ≡ floodedIn (planned graph p) k s .part
 
+-- ---- the logs
+
+-- the logs of n nodes can be looked at, for so many proposals
+pub record CanSurvey (n proposals : ℕ) (states : List ℕ) : Type 0 where
+  pub kept : AllKept maxTerms n states
+  pub some : 1 ≤ n
+  pub few : n ≤ maxNodes
+  pub most : proposals ≤ maxTerms
+
+-- the length of the shortest log, and whether all logs hold every proposal
+pub record Surveys (n proposals : ℕ) (states : List ℕ) (r : Progress) : Type 0 where
+  pub shortest : r .shortest ≡ shortestLog (statesOf n states) n
+  pub complete : r .complete ≡ complete n proposals (statesOf n states)
+
 -- ---- the rounds
 
 -- at most so many rounds can be played over Paxos states and a history that are still empty
-pub record CanBegin (graph : List ℕ) (p : Plan) (most : ℕ) (states history : List ℕ) : Type 0 where
+pub record CanStart (graph : List ℕ) (p : Plan) (most : ℕ) (states history : List ℕ) : Type 0 where
   pub accepted : Accepted (planned graph p)
   pub few : most ≤ mostRounds maxTerms
   pub no-state : states ≡ replicate (tableSize (p .nodes)) 0
@@ -109,7 +124,7 @@ pub record CanBegin (graph : List ℕ) (p : Plan) (most : ℕ) (states history :
 
 -- and so with the other tables
 pub record CanGo (graph : List ℕ) (p : Plan) (most : ℕ) (w : Workspace) : Type 0 where
-  pub begins : CanBegin graph p most (w .states) (w .history)
+  pub begins : CanStart graph p most (w .states) (w .history)
   pub stream : Before (p .config .seed) 0 (w .stream)
   pub none-held : w .held ≡ replicate heldSize 0
   pub room : p .config .«flood_repeats» ≤ length (w .queue)

@@ -17,7 +17,7 @@ ghost use mathlib.Core.Path.{_≡_};
 ghost use Prim.Native.Nat.{_≤_, _<_};
 ghost use lib.ListN.{replicate};
 ghost use Rattle.config.specs.Limits.{maxNodes, maxTerms, mostRounds};
-ghost use Rattle.pipeline.specs.View.{fewNodes, someNodes, tableSize};
+ghost use Rattle.pipeline.specs.View.{tableSize};
 ghost use Rattle.rules.specs.Answers.{ran};
 ghost use Rattle.rules.specs.Entries.{ranWith};
 ghost use Rattle.sim.specs.Going.{planned, CanFill, summaryFrom};

@@ -26,7 +26,7 @@ ghost use mathlib.Core.Bool.{cond, _&&_};
 ghost use lib.Dec.{eqb, ltb};
 ghost use Prim.Native.Nat.{_+_, _*_, _≤_};
 ghost use Rattle.config.specs.Limits.{maxNodes, maxTerms, maxRepeats, extraRounds};
-ghost use Rattle.sim.specs.Going.{settingsOf, workspace, CanPlay, Plays, CanBegin, CanGo, Goes, Stops, NewFlood, NewRun};
+ghost use Rattle.sim.specs.Going.{settingsOf, workspace, CanPlay, Plays, CanStart, CanGo, Goes, Stops, NewFlood, NewRun};
 
 // What a run is given beside the rows of its graph.
 pub struct Plan {
@@ -188,7 +188,7 @@ fn end_after(proposals: u64, diameter: u64, complete: bool, records: u64, k: u64
 }
 
 // Rounds up to an end, at most so many. A round starts only below the slot limit.
-fn rounds(
+fn play_rounds(
     graph: &[u64; MAX_NODES],
     plan: Plan,
     most: u64,
@@ -257,13 +257,13 @@ pub fn play(
     history: &mut [u64; HISTORY_SIZE],
     snapshots: &mut [u64],
 ) -> Stopped
-    requires { ⌜ CanBegin (now graph) plan most (now states) (now history) ⌝ }
+    requires { ⌜ CanStart (now graph) plan most (now states) (now history) ⌝ }
     ensures { λ r. ⌜ Stops (now (graph .entry)) plan most r (now (snapshots .entry)) (now (states .exit)) (now (history .exit)) (now (snapshots .exit)) ⌝ }
 {
     let mut queue = [0u64; QUEUE_SIZE];
     let mut stream = begin_draws(plan.config.seed);
     let mut held = [0u64; HELD_SIZE];
-    rounds(
+    play_rounds(
         graph,
         plan,
         most,

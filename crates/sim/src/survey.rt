@@ -5,11 +5,9 @@ use protocol::state::logged_set;
 use protocol::state::place_of;
 ghost use mathlib.Core.Path.{_≡_};
 ghost use Prim.Native.Nat.{_≤_, min};
-ghost use Rattle.config.specs.Limits.{maxNodes, maxTerms};
+ghost use Rattle.config.specs.Limits.{maxTerms};
 ghost use Rattle.network.specs.Graph.{has, all};
-ghost use Rattle.pipeline.specs.Round.{shortestLog};
-ghost use Rattle.rules.specs.Run.{complete};
-ghost use Rattle.pipeline.specs.View.{AllKept, statesOf};
+ghost use Rattle.sim.specs.Going.{CanSurvey, Surveys};
 
 // The length of the shortest log, and whether all logs hold every proposal.
 pub struct Progress {
@@ -35,8 +33,8 @@ fn logs_all(logged: u64, proposals: usize) -> bool
 // Looks at the logs of the first n nodes. A log with the terms of the first is no shorter, so only the others are counted;
 // all logs hold every proposal when their intersection does.
 pub fn survey(states: &[u64], n: usize, proposals: usize) -> Progress
-    requires { ⌜ AllKept maxTerms n (now states) × (1 ≤ n) × (n ≤ maxNodes) × (proposals ≤ maxTerms) ⌝ }
-    ensures { λ r. ⌜ (r .shortest ≡ shortestLog (statesOf n (now (states .entry))) n) × (r .complete ≡ complete n proposals (statesOf n (now (states .entry)))) ⌝ }
+    requires { ⌜ CanSurvey n proposals (now states) ⌝ }
+    ensures { λ r. ⌜ Surveys n proposals (now (states .entry)) r ⌝ }
 {
     let first = logged_set(states, place_of(NodeId(0)));
     let mut shortest = u64::count_ones(first) as u64;

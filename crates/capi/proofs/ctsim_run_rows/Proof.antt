@@ -6,8 +6,8 @@ use Rattle.capi.proofs.ctsim_run_rows.Tie as tie
 returns : tie.Need-returns
 returns c = run-short _ _ _ _ _ _ _ (c .if1 .taken)
 
-config-of-requires : tie.Need-config-of-requires
-config-of-requires c κs = search needs
+config-from-requires : tie.Need-config-from-requires
+config-from-requires c κs = search needs
 
 run-rows-requires : tie.Need-run-rows-requires
 run-rows-requires c κs = search needs
@@ -28,14 +28,14 @@ same-length-4 : tie.Need-same-length-4
 same-length-4 c = search needs
 
 returns-2 : tie.Need-returns-2
-returns-2 c = run-returned _ _ _ _ _ _ _ (c .before .before .before .before .before .before .before .before .before .before .before .before .before .before .before .if1 .left) _ _ _ _ _ _ _ (c .before .before .write-answer .ensures) (c .before .before .before .before .before .before .before .before .before .before .before .before .before .before .config-of .ensures) (c .before .before .before .before .before .before .before .before .before .before .run-rows .ensures)
+returns-2 c = run-returned _ _ _ _ _ _ _ (c .before .before .before .before .before .before .before .before .before .before .before .before .before .before .before .if1 .left) _ _ _ _ _ _ _ (c .before .before .write-answer .ensures) (c .before .before .before .before .before .before .before .before .before .before .before .before .before .before .config-from .ensures) (c .before .before .before .before .before .before .before .before .before .before .run-rows .ensures)
 
 pub ctsim-run-rows-spec : {M : Type 1} → statement M
 ctsim-run-rows-spec =
     tie.close
     (tie.spec
     returns
-    config-of-requires
+    config-from-requires
     run-rows-requires
     write-answer-requires
     same-length

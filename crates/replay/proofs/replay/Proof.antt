@@ -4,11 +4,12 @@ use mathlib.Core.Path.{_≡_, sym}
 use lib.ListN.{length}
 use native.Mathlib.Omega.{arith}
 use lib.Seq.{length-take-le}
+use Rattle.listing.specs.Listing.{listingMost}
 use Rattle.replay.proofs.replay.Statement.{statement}
 use Rattle.replay.proofs.replay.Tie as tie
 
 abbrev Inv-loop : tie.InvT-loop
-Inv-loop input out₀ at₀ out at = length out ≡ 166000
+Inv-loop input out₀ at₀ out at = length out ≡ listingMost
 
 abbrev μ-loop : tie.MeasureT-loop
 μ-loop input out₀ at₀ out at = length input - at

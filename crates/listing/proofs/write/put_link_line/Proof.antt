@@ -1,7 +1,7 @@
 use native.Mathlib.Omega.{arith}
 use borrow.Author.Needs.{needs}
 use Rattle.listing.specs.Ascii.{ascii}
-use Rattle.listing.specs.Listing.{entry, linkLine}
+use Rattle.listing.specs.Listing.{labelled, linkLine}
 use Rattle.listing.proofs.Overlays.{_then_}
 use Rattle.listing.proofs.write.put_link_line.Statement.{statement}
 use Rattle.listing.proofs.write.put_link_line.Tie as tie
@@ -12,7 +12,7 @@ put-requires c κs =
     omega (arith, covered)
 
 returns : tie.Need-returns
-unfolding linkLine entry ascii
+unfolding linkLine labelled ascii
 returns c =
     let piggybacks = c .before .before .before .before .before .before in
     let nacks = piggybacks .before .before .before .before in
@@ -21,8 +21,8 @@ returns c =
     let floods = nodes .before .before .before .before in
     let successes = floods .before .before .before .before .before in
     let attempts = successes .before .before .before .before in
-    attempts .put-entry .ensures then successes .put-spaced .ensures then floods .put-entry2 .ensures
-    then nodes .put-spaced2 .ensures then covered .put-spaced3 .ensures then nacks .put-entry3 .ensures
+    attempts .put-labelled .ensures then successes .put-spaced .ensures then floods .put-labelled2 .ensures
+    then nodes .put-spaced2 .ensures then covered .put-spaced3 .ensures then nacks .put-labelled3 .ensures
     then piggybacks .put-spaced4 .ensures then c .before .before .put .ensures
 
 pub put-link-line-spec : {M : Type 1} → statement M

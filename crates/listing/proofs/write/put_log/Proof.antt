@@ -3,20 +3,20 @@ use mathlib.Core.Path.{ap, _∙_}
 use borrow.Author.Needs.{needs}
 use Rattle.config.specs.Limits.{maxTerms}
 use Rattle.listing.specs.Ascii.{ascii}
-use Rattle.listing.specs.Listing.{entry, log}
+use Rattle.listing.specs.Listing.{labelled, logLine}
 use Rattle.listing.proofs.Overlays.{_then_}
 use Rattle.listing.proofs.write.put_log.Statement.{statement}
 use Rattle.listing.proofs.write.put_log.Tie as tie
 
 returns : tie.Need-returns
-unfolding log entry ascii
+unfolding logLine labelled ascii
 returns c =
     let terms = c .before .before .before .before .before .before in
     let smaller = terms .before .before in
     let logged = smaller .before in
     let node = logged .before .before .before in
     let count = smaller .smaller .ensures ∙ ap (λ k. min k maxTerms) (logged .byte-at .ensures) in
-    node .put-entry .ensures then rw count at (terms .put-terms .ensures) then c .before .before .put .ensures
+    node .put-labelled .ensures then rw count at (terms .put-terms .ensures) then c .before .before .put .ensures
 
 pub put-log-spec : {M : Type 1} → statement M
 put-log-spec =

@@ -1,12 +1,12 @@
 use Prim.Native.Nat.{_-_}
 use native.Mathlib.Omega.{arith}
-use Rattle.listing.specs.Listing.{log, logMost}
+use Rattle.listing.specs.Listing.{logLine, logLineMost}
 use Rattle.listing.proofs.Overlays.{Listed, each-none, each-more, each-all, reach, same-size}
 use Rattle.listing.proofs.write.put_logs.Statement.{statement}
 use Rattle.listing.proofs.write.put_logs.Tie as tie
 
 abbrev Inv-loop : tie.InvT-loop
-Inv-loop n logs out₀ at next₀ i₀ i-end out next i = Listed (log logs) logMost n out₀ at i out next
+Inv-loop n logs out₀ at next₀ i₀ i-end out next i = Listed (logLine logs) logLineMost n out₀ at i out next
 
 abbrev μ-loop : tie.MeasureT-loop
 μ-loop n logs out₀ at next₀ i₀ i-end out next i = n - i

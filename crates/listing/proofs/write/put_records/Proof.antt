@@ -1,12 +1,12 @@
 use Prim.Native.Nat.{_-_}
 use native.Mathlib.Omega.{arith}
-use Rattle.listing.specs.Listing.{proposal, proposalMost}
+use Rattle.listing.specs.Listing.{proposalLine, proposalLineMost}
 use Rattle.listing.proofs.Overlays.{Listed, each-none, each-more, each-all, reach, same-size}
 use Rattle.listing.proofs.write.put_records.Statement.{statement}
 use Rattle.listing.proofs.write.put_records.Tie as tie
 
 abbrev Inv-loop : tie.InvT-loop
-Inv-loop n records out₀ at next₀ i₀ i-end out next i = Listed (proposal records) proposalMost n out₀ at i out next
+Inv-loop n records out₀ at next₀ i₀ i-end out next i = Listed (proposalLine records) proposalLineMost n out₀ at i out next
 
 abbrev μ-loop : tie.MeasureT-loop
 μ-loop n records out₀ at next₀ i₀ i-end out next i = n - i

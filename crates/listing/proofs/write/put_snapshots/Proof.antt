@@ -1,12 +1,12 @@
 use Prim.Native.Nat.{_-_}
 use native.Mathlib.Omega.{arith}
-use Rattle.listing.specs.Listing.{snapshot, snapshotMost}
+use Rattle.listing.specs.Listing.{snapshotLine, snapshotLineMost}
 use Rattle.listing.proofs.Overlays.{Listed, each-none, each-more, each-all, reach, same-size}
 use Rattle.listing.proofs.write.put_snapshots.Statement.{statement}
 use Rattle.listing.proofs.write.put_snapshots.Tie as tie
 
 abbrev Inv-loop : tie.InvT-loop
-Inv-loop n snapshots out₀ at next₀ i₀ i-end out next i = Listed (snapshot snapshots) snapshotMost n out₀ at i out next
+Inv-loop n snapshots out₀ at next₀ i₀ i-end out next i = Listed (snapshotLine snapshots) snapshotLineMost n out₀ at i out next
 
 abbrev μ-loop : tie.MeasureT-loop
 μ-loop n snapshots out₀ at next₀ i₀ i-end out next i = n - i

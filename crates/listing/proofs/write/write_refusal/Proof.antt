@@ -1,15 +1,15 @@
 use borrow.Author.Needs.{needs}
 use Rattle.listing.specs.Ascii.{ascii}
-use Rattle.listing.specs.Listing.{entry, refusal}
+use Rattle.listing.specs.Listing.{labelled, refusal}
 use Rattle.listing.proofs.Overlays.{_then_, whole}
 use Rattle.listing.proofs.write.write_refusal.Statement.{statement}
 use Rattle.listing.proofs.write.write_refusal.Tie as tie
 
 returns : tie.Need-returns
-unfolding refusal entry ascii
+unfolding refusal labelled ascii
 returns c =
     let entry = c .before .before .before .before .before .before in
-    whole (entry .put-entry .ensures then c .before .before .put .ensures)
+    whole (entry .put-labelled .ensures then c .before .before .put .ensures)
 
 pub write-refusal-spec : {M : Type 1} → statement M
 write-refusal-spec =

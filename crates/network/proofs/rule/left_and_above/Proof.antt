@@ -16,14 +16,14 @@ returns c =
     let s = c .before .before .before in
     let a = s .args in
     test-yes (a .n) (λ j. eqb (j + 1) (a .i)) (λ j. eqb (j + a .c) (a .i)) (lt-ltb _ _ (c .before .if1 .taken)) (c .back2 .ensures) (c .before .before .back .ensures)
-    ∙ setOf-cong (a .n) (λ j _. ap (λ (x : Bool). x || eqb (j + a .c) (a .i)) (sym (left-is (a .c) (a .i) j (s .pre .0 .0))))
+    ∙ setOf-cong (a .n) (λ j _. ap (λ (x : Bool). x || eqb (j + a .c) (a .i)) (sym (left-is (a .c) (a .i) j (s .pre .column))))
 
 returns-2 : tie.Need-returns-2
 returns-2 c =
     let s = c .before .before in
     let a = s .args in
     test-no (a .n) (λ j. eqb (j + 1) (a .i)) (λ j. eqb (j + a .c) (a .i)) (le-ltb _ _ (c .if1 .left)) (c .before .back .ensures)
-    ∙ setOf-cong (a .n) (λ j _. ap (λ (x : Bool). x || eqb (j + a .c) (a .i)) (sym (left-is (a .c) (a .i) j (s .pre .0 .0))))
+    ∙ setOf-cong (a .n) (λ j _. ap (λ (x : Bool). x || eqb (j + a .c) (a .i)) (sym (left-is (a .c) (a .i) j (s .pre .column))))
 
 pub left-and-above-spec : {M : Type 1} → statement M
 left-and-above-spec =

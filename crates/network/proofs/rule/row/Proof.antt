@@ -14,10 +14,14 @@ use Rattle.network.proofs.rule.row.Statement.{statement}
 use Rattle.network.proofs.rule.row.Tie as tie
 
 right-and-below-requires : tie.Need-right-and-below-requires
-right-and-below-requires c κs = (subst Sized (c .before .t .given .1) (c .before .before .before .pre .0) .0, (omega arith, omega arith))
+right-and-below-requires c κs =
+    let s = subst Sized (c .before .t .given .1) (c .before .before .before .pre .0) .0 in
+    record { column = s .0; fits = s .1; few = omega arith; node = omega arith }
 
 left-and-above-requires : tie.Need-left-and-above-requires
-left-and-above-requires c κs = (subst Sized (c .before .before .t .given .1) (c .before .before .before .before .pre .0) .0, (omega arith, omega arith))
+left-and-above-requires c κs =
+    let s = subst Sized (c .before .before .t .given .1) (c .before .before .before .before .pre .0) .0 in
+    record { column = s .0; fits = s .1; few = omega arith; node = omega arith }
 
 children-requires : tie.Need-children-requires
 children-requires c κs = (subst Sized (c .before .t2 .given .1) (c .before .before .before .pre .0) .1, (omega arith, omega arith))

@@ -7,11 +7,10 @@ use borrow.Author.Needs.{needs}
 use denote.Ref.{now}
 use lib.Bits.{bitAnd, bitOr, and-le-l, or-lt}
 use lib.Count.{ones, ones-le}
-use Rattle.config.specs.Limits.{maxNodes}
+use Rattle.config.specs.Limits.{wordBits, maxNodes}
 use Rattle.network.specs.Graph.{has, setOf}
 use Rattle.network.proofs.Sets.{one-shl, setOf-lt}
 use Rattle.phy.specs.declared.ci.Delivered.{Delivered}
-use Rattle.phy.specs.Limits.{setBits}
 use Rattle.phy.specs.View.{GaveAll, Delivers, sameNumbers}
 use Rattle.phy.proofs.Deliveries.{asleep-few, kept-few, same, delivers}
 use Rattle.phy.proofs.ci.deliver.Statement.{statement}
@@ -56,7 +55,7 @@ cast-t20 c =
     let found = c .before .before .holders in
     let all = c .before .before .before .before .full-set in
     let few : found .result < 2 ^ maxNodes = subst⁻¹ (λ (k : ℕ). k < 2 ^ maxNodes) (found .ensures) (setOf-lt maxNodes _) in
-    omega (arith, ones-le setBits _ (or-lt setBits (all .result - bitAnd (all .result) (a .awake)) (found .result) (omega (arith, all .ok)) (omega (arith, few))))
+    omega (arith, ones-le wordBits _ (or-lt wordBits (all .result - bitAnd (all .result) (a .awake)) (found .result) (omega (arith, all .ok)) (omega (arith, few))))
 
 returns : tie.Need-returns
 returns c =
@@ -67,7 +66,7 @@ returns c =
     let h = now (a .held) in
     let awake = a .awake in
     let all = c .before .before .before .before .full-set .ensures in
-    let own = one-shl setBits (a .initiator .0) (omega (arith, few, node)) in
+    let own = one-shl wordBits (a .initiator .0) (omega (arith, few, node)) in
     let found : c .before .before .holders .result ≡ same (a .n) (a .initiator .0) (a .packet) awake (a .before) h few node
     = c .before .before .holders .ensures ∙ ap (λ (w : ℕ). setOf maxNodes (λ (k : ℕ). has (bitAnd (bitAnd w (a .before)) awake) k && sameNumbers h (a .packet) k)) all in
     delivers-as

@@ -16,27 +16,27 @@ can-begin : (c : tie.Start) → CanBegin (c .args .settings) (c .args .initiator
 can-begin c = let pre = c .pre in record { few = pre .sound .few; node = pre .node; repeats = pre .sound .repeats; room = pre .stands .room }
 
 -- where the round began
-abbrev start : tie.After-begin → tie.Start
+abbrev start : tie.After-begin-round → tie.Start
 start c = c .before .before .before .before .before .before .before .before
 
 -- attempts and slots are as they were
-begun-source : (c : tie.After-begin) (heard : ℕ → Bool) → let a = start c .args in
-    Source (a .settings .rate) heard (a .flood .attempts) (now (a .stream)) → Source (a .settings .rate) heard (c .begin .result .attempts) (now (a .stream))
+begun-source : (c : tie.After-begin-round) (heard : ℕ → Bool) → let a = start c .args in
+    Source (a .settings .rate) heard (a .flood .attempts) (now (a .stream)) → Source (a .settings .rate) heard (c .begin-round .result .attempts) (now (a .stream))
 begun-source c heard s =
     let a = start c .args in
-    subst⁻¹ (λ (z : Flood). Source (a .settings .rate) heard (z .attempts) (now (a .stream))) (c .begin .ensures .flood) s
+    subst⁻¹ (λ (z : Flood). Source (a .settings .rate) heard (z .attempts) (now (a .stream))) (c .begin-round .ensures .flood) s
 
 numbers-requires : tie.Need-numbers-requires
 numbers-requires c κs = search needs
 
-cast-clear : tie.Need-cast-clear
-cast-clear c = search needs
+cast-empty-queue : tie.Need-cast-empty-queue
+cast-empty-queue c = search needs
 
-clear-requires : tie.Need-clear-requires
-clear-requires c κs = search needs
+empty-queue-requires : tie.Need-empty-queue-requires
+empty-queue-requires c κs = search needs
 
-begin-requires : tie.Need-begin-requires
-begin-requires c κs = can-begin (c .before .before .before .before .before .before .before)
+begin-round-requires : tie.Need-begin-round-requires
+begin-round-requires c κs = can-begin (c .before .before .before .before .before .before .before)
 
 slots-requires : tie.Need-slots-requires
 slots-requires c κs =
@@ -44,7 +44,7 @@ slots-requires c κs =
     let a = start begun .args in
     let pre = start begun .pre in
     let sound = pre .sound in
-    let opened = begun .begin .ensures in (
+    let opened = begun .begin-round .ensures in (
       subst⁻¹ (Sound (a .settings)) (opened .flood) (record { few = sound .few; repeats = sound .repeats; interval = sound .interval; attempts = sound .attempts; successes = sound .successes; next = sound .next }),
       omega (arith, pre .early, ap (λ (z : Flood). z .slot .0) (opened .flood)),
       record {
@@ -53,7 +53,7 @@ slots-requires c κs =
         packets = _;
         first = pre .first;
         standing = _;
-        here = opens (a .settings) (a .initiator .0) (a .packet) (can-begin (start begun)) (pre .room) (begun .before .before .before .clear .ensures) (begun .before .before .before .before .before .before .numbers .ensures) opened (pre .stands);
+        here = opens (a .settings) (a .initiator .0) (a .packet) (can-begin (start begun)) (pre .room) (begun .before .before .before .empty-queue .ensures) (begun .before .before .before .before .before .before .numbers .ensures) opened (pre .stands);
       },
     )
 
@@ -61,7 +61,7 @@ deliver-requires : tie.Need-deliver-requires
 deliver-requires c κs =
     let begun = c .before .before .before .before .before .before .before .before in
     let pre = start begun .pre in
-    (pre .sound .few, pre .node, begun .begin .ensures .held .size ∙ pre .stands .room)
+    (pre .sound .few, pre .node, begun .begin-round .ensures .held .size ∙ pre .stands .room)
 
 same-length : tie.Need-same-length
 same-length c = search needs
@@ -76,14 +76,14 @@ returns c =
     let n = a .settings .nodes in
     let first = a .initiator .0 in
     let key = begun .before .before .before .before .before .before .numbers .ensures in
-    let opened = begun .begin .ensures in
+    let opened = begun .begin-round .ensures in
     record {
       sound = record { few = run .sound .few; repeats = run .sound .repeats; interval = run .sound .interval; attempts = run .sound .attempts; successes = run .sound .successes; next = run .sound .next };
       slots = omega (arith, run .slots, ap (λ (z : Flood). z .slot .0) (opened .flood));
       room = run .room;
       source = λ heard s. run .source heard (begun-source begun heard s);
       stands = λ heard source b₀ s st.
-          let there = opens (a .settings) first (a .packet) (can-begin (start begun)) (pre .room) (begun .before .before .before .clear .ensures) key opened st in
+          let there = opens (a .settings) first (a .packet) (can-begin (start begun)) (pre .room) (begun .before .before .before .empty-queue .ensures) key opened st in
           closes n first (a .packet) (omega (arith, pre .sound .few)) key refl (c .deliver .ensures) (run .stands heard (begun-source begun heard source) _ b₀ _ there);
     }
 
@@ -92,9 +92,9 @@ flood-identical-round-spec =
     tie.close
     (tie.spec
     numbers-requires
-    cast-clear
-    clear-requires
-    begin-requires
+    cast-empty-queue
+    empty-queue-requires
+    begin-round-requires
     slots-requires
     deliver-requires
     same-length

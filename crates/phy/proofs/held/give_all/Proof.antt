@@ -2,10 +2,9 @@ use Prim.Native.Nat.{ℕ, _+_, _<_}
 use mathlib.Core.Path.{sym, subst⁻¹, _∙_}
 use native.Mathlib.Omega.{arith}
 use lib.Count.{trailingZeros}
-use Rattle.config.specs.Limits.{maxNodes}
+use Rattle.config.specs.Limits.{wordBits, maxNodes}
 use Rattle.network.proofs.Lowest.{Walked, Next, walked-none, walked-all, walked-next, nonzero}
 use Rattle.network.proofs.Sets.{has-below}
-use Rattle.phy.specs.Limits.{setBits}
 use Rattle.phy.proofs.Numbers.{GivingAll, giving-all-none, giving-all-more, giving-all-end}
 use Rattle.phy.proofs.held.give_all.Statement.{statement}
 use Rattle.phy.proofs.held.give_all.Tie as tie
@@ -16,10 +15,10 @@ Inv-loop held₀ set packet rest₀ held rest = (m : ℕ) × Walked set rest m �
 abbrev μ-loop : tie.MeasureT-loop
 μ-loop held₀ set packet rest₀ held rest = rest
 
-next : (c : tie.In-loop Inv-loop μ-loop) → Next setBits (c .before .before .args .set) (c .before .loop .rest) (c .before .loop .inv .0) (trailingZeros setBits (c .before .loop .rest))
-next c = walked-next setBits (omega (arith, c .before .loop .inv .1 .part)) (c .loop-test .taken) (c .before .loop .inv .1)
+next : (c : tie.In-loop Inv-loop μ-loop) → Next wordBits (c .before .before .args .set) (c .before .loop .rest) (c .before .loop .inv .0) (trailingZeros wordBits (c .before .loop .rest))
+next c = walked-next wordBits (omega (arith, c .before .loop .inv .1 .part)) (c .loop-test .taken) (c .before .loop .inv .1)
 
-node : (c : tie.In-loop Inv-loop μ-loop) → trailingZeros setBits (c .before .loop .rest) < maxNodes
+node : (c : tie.In-loop Inv-loop μ-loop) → trailingZeros wordBits (c .before .loop .rest) < maxNodes
 node c = has-below (c .before .before .pre .0) _ (next c .is)
 
 loop-holds : tie.Need-loop-holds Inv-loop μ-loop
@@ -41,7 +40,7 @@ loop-again : tie.Need-loop-again Inv-loop μ-loop
 loop-again c =
     let n = next (c .before .before) in
     let l = c .before .before .before .loop in
-    (trailingZeros setBits (l .rest) + 1, n .onward, giving-all-more (l .inv .2) n (c .give .ensures))
+    (trailingZeros wordBits (l .rest) + 1, n .onward, giving-all-more (l .inv .2) n (c .give .ensures))
 
 returns : tie.Need-returns Inv-loop μ-loop
 returns c =

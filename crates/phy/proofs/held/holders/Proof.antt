@@ -5,11 +5,10 @@ use mathlib.Core.Logic.{⊎-elim}
 use native.Mathlib.Omega.{arith}
 use denote.Ref.{now}
 use lib.Count.{trailingZeros}
-use Rattle.config.specs.Limits.{maxNodes}
+use Rattle.config.specs.Limits.{wordBits, maxNodes}
 use Rattle.network.specs.Graph.{has, setOf}
 use Rattle.network.proofs.Lowest.{Walked, Next, walked-none, walked-all, walked-next, nonzero}
 use Rattle.network.proofs.Sets.{has-below, setOf-with, setOf-without}
-use Rattle.phy.specs.Limits.{setBits}
 use Rattle.phy.specs.View.{sameNumbers}
 use Rattle.phy.proofs.Masks.{setOf-skip}
 use Rattle.phy.proofs.held.holders.Statement.{statement}
@@ -21,10 +20,10 @@ Inv-loop held set packet found₀ rest₀ found rest = (m : ℕ) × Walked set r
 abbrev μ-loop : tie.MeasureT-loop
 μ-loop held set packet found₀ rest₀ found rest = rest
 
-next : (c : tie.In-loop Inv-loop μ-loop) → Next setBits (c .before .before .args .set) (c .before .loop .rest) (c .before .loop .inv .0) (trailingZeros setBits (c .before .loop .rest))
-next c = walked-next setBits (omega (arith, c .before .loop .inv .1 .part)) (c .loop-test .taken) (c .before .loop .inv .1)
+next : (c : tie.In-loop Inv-loop μ-loop) → Next wordBits (c .before .before .args .set) (c .before .loop .rest) (c .before .loop .inv .0) (trailingZeros wordBits (c .before .loop .rest))
+next c = walked-next wordBits (omega (arith, c .before .loop .inv .1 .part)) (c .loop-test .taken) (c .before .loop .inv .1)
 
-node : (c : tie.In-loop Inv-loop μ-loop) → trailingZeros setBits (c .before .loop .rest) < maxNodes
+node : (c : tie.In-loop Inv-loop μ-loop) → trailingZeros wordBits (c .before .loop .rest) < maxNodes
 node c = has-below (c .before .before .pre) _ (next c .is)
 
 loop-holds : tie.Need-loop-holds Inv-loop μ-loop
@@ -54,14 +53,14 @@ loop-again c =
     let n = next (c .before .before) in
     let l = c .before .before .before .loop in
     let a = c .before .before .before .before .args in
-    let t = trailingZeros setBits (l .rest) in
+    let t = trailingZeros wordBits (l .rest) in
     let f : ℕ → Bool = λ (k : ℕ). has (a .set) k && sameNumbers (now (a .held)) (a .packet) k in
     let so-far : l .found ≡ setOf t f = l .inv .3 ∙ sym (setOf-skip (l .inv .0) t f (n .from) (λ i u v. ap (λ (b : Bool). b && sameNumbers (now (a .held)) (a .packet) i) (n .none i u v))) in
     let test : (b : Bool) → c .before .same-numbers .result ≡ b → f t ≡ b = λ b e. ap₂ _&&_ (n .is) (sym (c .before .same-numbers .ensures) ∙ e) in (
       t + 1,
       n .onward,
       omega (arith, node (c .before .before)),
-      ⊎-elim (λ w. w .1 ∙ setOf-with setBits t f (n .within) so-far (test true (w .0 .taken))) (λ w. w .1 ∙ setOf-without t f so-far (test false (w .0 .left))) (c .if1 .came),
+      ⊎-elim (λ w. w .1 ∙ setOf-with wordBits t f (n .within) so-far (test true (w .0 .taken))) (λ w. w .1 ∙ setOf-without t f so-far (test false (w .0 .left))) (c .if1 .came),
     )
 
 returns : tie.Need-returns Inv-loop μ-loop

@@ -4,7 +4,7 @@ use mathlib.Core.Path.{_≡_, refl, sym, ap, subst, _∙_}
 use native.Mathlib.Omega.{arith}
 use lib.ListN.{length}
 use Rattle.phy.specs.Slot.{Shots, takeOne, takeWhile}
-use Rattle.phy.specs.View.{shotOf, Recorded}
+use Rattle.phy.specs.View.{shotOf, Scheduled}
 use Rattle.phy.proofs.Snapshots.{none-due, one-due, recorded-one, next-fits, one-more}
 use Rattle.phy.proofs.snapshot.take_snapshots.Statement.{statement}
 use Rattle.phy.proofs.snapshot.take_snapshots.Tie as tie
@@ -13,10 +13,10 @@ abbrev Inv-loop : tie.InvT-loop
 Inv-loop interval shown snapshots₀ this next₀ count₀ snapshots next count =
     (length snapshots ≡ length snapshots₀)
     × (next ≡ count * interval)
-    × ((b₀ : List ℕ) (x₀ : Shots) → Recorded next₀ count₀ b₀ snapshots₀ x₀
+    × ((b₀ : List ℕ) (x₀ : Shots) → Scheduled next₀ count₀ b₀ snapshots₀ x₀
     → (most : ℕ) × (x : Shots)
     × (this < next + most)
-    × Recorded next count b₀ snapshots x
+    × Scheduled next count b₀ snapshots x
     × (takeWhile interval (shotOf shown) this most x ≡ takeWhile interval (shotOf shown) this (suc this) x₀))
 
 abbrev μ-loop : tie.MeasureT-loop
@@ -84,7 +84,7 @@ returns c =
       multiple = l .inv .1;
       recorded = λ b₀ x₀ r₀.
           let all = l .inv .2 b₀ x₀ r₀ in
-          subst (Recorded (l .next) (l .count) b₀ (l .snapshots))
+          subst (Scheduled (l .next) (l .count) b₀ (l .snapshots))
           (sym (none-due (a .interval) (shotOf (a .shown)) (a .slot .0) (all .0) (all .1) (omega (arith, all .3 .due, c .loop-test .left))) ∙ all .4) (all .3);
     }
 

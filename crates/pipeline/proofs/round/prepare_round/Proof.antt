@@ -43,15 +43,15 @@ initiator-turn-requires c κs =
       nodes = pre .two;
     }
 
-start-requires : tie.Need-start-requires
-start-requires c κs =
+keep-start-requires : tie.Need-keep-start-requires
+keep-start-requires c κs =
     let start = c .before .before .before .before .before .before .before .before in
     (start .pre .sharing .started, room start)
 
 record-all-requires : tie.Need-record-all-requires
 record-all-requires c κs =
     let start = c .before .before .before .before .before .before .before .before .before .before .before in
-    starts-recording (start .args .x .recorded) (c .before .before .start .ensures) (start .pre .sharing .recording)
+    starts-recording (start .args .x .recorded) (c .before .before .keep-start .ensures) (start .pre .sharing .recording)
 
 one-if-requires : tie.Need-one-if-requires
 one-if-requires c κs = search needs
@@ -89,7 +89,7 @@ returns c =
     let here = start .pre .initiator in
     let turn = turn-place .initiator-turn in
     let took = subst (λ (at : ℕ). Initiates at i n (x .counter) b (x .piggyback) held (turn .result) (turn .last .0)) (turn-place .before .before .place-of .ensures) (turn .ensures) in
-    let begun = begun-place .start .ensures in
+    let begun = begun-place .keep-start .ensures in
     let recorded = recorded-place .record-all in
     let one = c .before .before .one-if in
     let nacked = c .before .one-nack .ensures in
@@ -133,7 +133,7 @@ prepare-round-spec =
     (tie.spec
     place-of-requires
     initiator-turn-requires
-    start-requires
+    keep-start-requires
     record-all-requires
     one-if-requires
     add-t23

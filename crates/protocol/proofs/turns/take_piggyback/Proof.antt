@@ -1,7 +1,7 @@
 -- `protocol::turns::take_piggyback` meets its contract, by cases.
 -- Assumes nothing.
 use borrow.Author.Needs.{needs}
-use mathlib.Core.Path.{refl, subst}
+use mathlib.Core.Path.{subst}
 use Rattle.config.specs.Limits.{maxTerms}
 use Rattle.protocol.specs.Turns.{takePiggyback}
 use Rattle.protocol.specs.View.{backBelow}

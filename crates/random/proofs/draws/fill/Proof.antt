@@ -37,17 +37,17 @@ element-copy-out-t28 c = search needs
 stream-block-requires : tie.Need-stream-block-requires
 stream-block-requires c κs = search needs
 
-slice-aggregate-put : tie.Need-slice-aggregate-put
-slice-aggregate-put c = search needs
+slice-aggregate-place-words : tie.Need-slice-aggregate-place-words
+slice-aggregate-place-words c = search needs
 
-put-requires : tie.Need-put-requires
-put-requires c κs = search needs
+place-words-requires : tie.Need-place-words-requires
+place-words-requires c κs = search needs
 
 returns : tie.Need-returns
 unfolding tabulate
 returns c =
     let a = c .before .before .before .before .before .before .before .before .before .before .before .before .args in
-    let put = c .put .ensures in
+    let put = c .place-words .ensures in
     let block = c .before .before .before .stream-block .ensures in
     λ seed keyed. (
       record { size = put .size ∙ keyed .size; words = λ i h. put .kept i h ∙ keyed .words i h },
@@ -68,6 +68,6 @@ fill-spec =
     element-copy-out-t25
     element-copy-out-t28
     stream-block-requires
-    slice-aggregate-put
-    put-requires
+    slice-aggregate-place-words
+    place-words-requires
     returns)

@@ -1,8 +1,6 @@
-use Prim.Native.Nat.{_*_, _≤_}
 use native.Mathlib.Omega.{arith}
 use borrow.Author.Needs.{needs}
 use denote.Ref.{now}
-use lib.ListN.{length}
 use Rattle.pipeline.proofs.Recordings.{records-few}
 use Rattle.sim.proofs.Underway.{kept-all}
 use Rattle.sim.proofs.Filled.{finishes}

@@ -64,12 +64,12 @@ place-of-requires c κs = omega arith
 logged-set-requires : tie.Need-logged-set-requires Inv-loop μ-loop
 logged-set-requires c κs =
     let pre = c .before .before .pre in
-    omega (arith, c .place-of .ensures, pre .0 .each 0 (pre .1) .fits)
+    omega (arith, c .place-of .ensures, pre .kept .each 0 (pre .some) .fits)
 
 cast-shortest : tie.Need-cast-shortest Inv-loop μ-loop
 cast-shortest c =
     let pre = c .before .before .before .pre in
-    omega (arith, ap ones (first-is c), log-room (pre .0 .each 0 (pre .1)))
+    omega (arith, ap ones (first-is c), log-room (pre .kept .each 0 (pre .some)))
 
 loop-holds : tie.Need-loop-holds Inv-loop μ-loop
 unfolding shortestFrom all
@@ -78,8 +78,8 @@ loop-holds c =
     let p = start .pre in
     let a = start .args in (
       omega arith,
-      ap ones (first-is c) ∙ sym (log-length (a .n) (now (a .states)) 0 (p .1)),
-      ap (λ (w : ℕ). all (a .proposals) (has w)) (first-is c) ∙ full-is (a .n) (now (a .states)) (a .proposals) 0 (p .0) (p .1) ∙ and-comm true (full (a .n) (now (a .states)) (a .proposals) 0),
+      ap ones (first-is c) ∙ sym (log-length (a .n) (now (a .states)) 0 (p .some)),
+      ap (λ (w : ℕ). all (a .proposals) (has w)) (first-is c) ∙ full-is (a .n) (now (a .states)) (a .proposals) 0 (p .kept) (p .some) ∙ and-comm true (full (a .n) (now (a .states)) (a .proposals) 0),
     )
 
 place-of-requires-2 : tie.Need-place-of-requires-2 Inv-loop μ-loop
@@ -88,12 +88,12 @@ place-of-requires-2 c κs = omega arith
 logged-set-requires-2 : tie.Need-logged-set-requires-2 Inv-loop μ-loop
 logged-set-requires-2 c κs =
     let l = c .before .before in
-    omega (arith, c .place-of2 .ensures, l .before .before .before .before .pre .0 .each (l .loop .j) (omega arith) .fits)
+    omega (arith, c .place-of2 .ensures, l .before .before .before .before .pre .kept .each (l .loop .j) (omega arith) .fits)
 
 cast-smaller : tie.Need-cast-smaller Inv-loop μ-loop
 cast-smaller c =
     let l = c .before .before .before .before in
-    omega (arith, ap ones (logged-is (c .before)), log-room (l .before .before .before .before .pre .0 .each (l .loop .j) (omega arith)))
+    omega (arith, ap ones (logged-is (c .before)), log-room (l .before .before .before .before .pre .kept .each (l .loop .j) (omega arith)))
 
 smaller-requires : tie.Need-smaller-requires Inv-loop μ-loop
 smaller-requires c κs = tt
@@ -122,17 +122,17 @@ loop-again c =
           (λ w.
           w .1
           ∙ l .inv .1
-          ∙ sym (min-eq-left (le-trans (shortest-le (length (stateOf states 0 .log)) states (l .j)) (le-of-eq (size 0 (start .pre .1) ∙ ap ones (sym (first-is (top .before)) ∙ sym (w .0 .left) ∙ set-is) ∙ sym (size (l .j) here))))))
+          ∙ sym (min-eq-left (le-trans (shortest-le (length (stateOf states 0 .log)) states (l .j)) (le-of-eq (size 0 (start .pre .some) ∙ ap ones (sym (first-is (top .before)) ∙ sym (w .0 .left) ∙ set-is) ∙ sym (size (l .j) here))))))
           (c .if1 .came)
           ∙ ap (shortestFrom (length (stateOf states 0 .log)) states) (sym (add-one (l .j))),
       all-and (a .proposals) (l .common) (c .before .logged-set2 .result)
-          ∙ ap₂ _&&_ (l .inv .2) (ap (λ (w : ℕ). all (a .proposals) (has w)) set-is ∙ full-is (a .n) b (a .proposals) (l .j) (start .pre .0) here)
+          ∙ ap₂ _&&_ (l .inv .2) (ap (λ (w : ℕ). all (a .proposals) (has w)) set-is ∙ full-is (a .n) b (a .proposals) (l .j) (start .pre .kept) here)
           ∙ and-assoc (f 0) (all (l .j) f) (f (l .j))
           ∙ ap (λ (k : ℕ). f 0 && all k f) (sym (add-one (l .j))),
     )
 
 logs-all-requires : tie.Need-logs-all-requires Inv-loop μ-loop
-logs-all-requires c κs = c .before .before .before .before .before .pre .3
+logs-all-requires c κs = c .before .before .before .before .before .pre .most
 
 returns : tie.Need-returns Inv-loop μ-loop
 unfolding complete
@@ -142,13 +142,15 @@ returns c =
     let a = start .args in
     let states = statesOf (a .n) (now (a .states)) in
     let f = full (a .n) (now (a .states)) (a .proposals) in
-    let done : l .j ≡ a .n = omega arith in (
-      l .inv .1 ∙ ap (shortestFrom (length (stateOf states 0 .log)) states) done,
-      c .logs-all .ensures
+    let done : l .j ≡ a .n = omega arith in
+    record {
+      shortest = l .inv .1 ∙ ap (shortestFrom (length (stateOf states 0 .log)) states) done;
+      complete =
+          c .logs-all .ensures
           ∙ l .inv .2
           ∙ ap (λ (k : ℕ). f 0 && all k f) done
-          ∙ same (λ e. and-both (f 0) (all (a .n) f) e .1) (λ e. ap₂ _&&_ (all-elim (a .n) f e 0 (start .pre .1)) e),
-    )
+          ∙ same (λ e. and-both (f 0) (all (a .n) f) e .1) (λ e. ap₂ _&&_ (all-elim (a .n) f e 0 (start .pre .some)) e);
+    }
 
 pub survey-spec : {M : Type 1} → statement M
 survey-spec =

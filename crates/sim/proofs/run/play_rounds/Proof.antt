@@ -5,8 +5,8 @@ use denote.Ref.{now}
 use lib.ListN.{length, length-replicate}
 use Rattle.sim.specs.Going.{workspace, Underway}
 use Rattle.sim.proofs.Underway.{underway-new, used-up, at-limit, at-end, goes-on, kept-all, same-size}
-use Rattle.sim.proofs.run.rounds.Statement.{statement}
-use Rattle.sim.proofs.run.rounds.Tie as tie
+use Rattle.sim.proofs.run.play_rounds.Statement.{statement}
+use Rattle.sim.proofs.run.play_rounds.Tie as tie
 
 abbrev Inv-loop : tie.InvT-loop
 Inv-loop graph plan most queue₀ stream₀ held₀ states₀ history₀ snapshots₀ config proposals x₀ k₀ queue stream held states history snapshots x k =
@@ -69,7 +69,7 @@ survey-requires : tie.Need-survey-requires Inv-loop μ-loop
 survey-requires c κs =
     let r = c .before .before .before .before .before .before in
     let ok = start (looped (limited r)) .pre .begins .accepted in
-    (kept-all (r .run-round .ensures .steady), omega (arith, ok .two), ok .few, ok .proposals)
+    record { kept = kept-all (r .run-round .ensures .steady); some = omega (arith, ok .two); few = ok .few; most = ok .proposals }
 
 end-after-requires : tie.Need-end-after-requires Inv-loop μ-loop
 end-after-requires c κs =
@@ -99,7 +99,7 @@ returns-2 c =
     let r = played e in
     let l = limited r in
     at-end (looped l .loop .inv) (l .before .before .before .loop-test .taken) (l .if1 .left) (r .run-round .ensures)
-    (e .before .survey .ensures .0) (e .before .survey .ensures .1) (e .end-after .result) (e .end-after .ensures) (c .if2 .taken)
+    (e .before .survey .ensures) (e .end-after .result) (e .end-after .ensures) (c .if2 .taken)
 
 loop-less : tie.Need-loop-less Inv-loop μ-loop
 loop-less c = omega (arith, limited (played (c .before)) .before .before .before .loop-test .taken)
@@ -110,7 +110,7 @@ loop-again c =
     let r = played e in
     let l = limited r in
     goes-on (looped l .loop .inv) (l .before .before .before .loop-test .taken) (l .if1 .left) (r .run-round .ensures)
-    (e .before .survey .ensures .0) (e .before .survey .ensures .1) (e .end-after .result) (e .end-after .ensures) (c .if2 .left)
+    (e .before .survey .ensures) (e .end-after .result) (e .end-after .ensures) (c .if2 .left)
 
 same-length-5 : tie.Need-same-length-5 Inv-loop μ-loop
 same-length-5 c = states-size (c .before)
@@ -121,8 +121,8 @@ same-length-6 c = same-size (c .before .loop .inv .going .shows)
 returns-3 : tie.Need-returns-3 Inv-loop μ-loop
 returns-3 c = used-up (c .before .loop .inv) (c .loop-test .left)
 
-pub rounds-spec : {M : Type 1} → statement M
-rounds-spec =
+pub play-rounds-spec : {M : Type 1} → statement M
+play-rounds-spec =
     tie.close
     (tie.spec
     Inv-loop

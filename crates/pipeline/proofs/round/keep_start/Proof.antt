@@ -7,8 +7,8 @@ use denote.Ref.{now}
 use lib.ListN.{set}
 use Rattle.pipeline.specs.View.{Starts}
 use Rattle.pipeline.proofs.Sharing.{starts-one, starts-none}
-use Rattle.pipeline.proofs.round.start.Statement.{statement}
-use Rattle.pipeline.proofs.round.start.Tie as tie
+use Rattle.pipeline.proofs.round.keep_start.Statement.{statement}
+use Rattle.pipeline.proofs.round.keep_start.Tie as tie
 
 mul-history : tie.Need-mul-history
 mul-history c = search needs
@@ -28,5 +28,5 @@ returns-2 c =
     let a = c .before .args in
     subst⁻¹ (λ (b : Bool). Starts (a .counter) b (a .slot .0) (now (a .history)) (now (a .history))) (c .if1 .left) (starts-none (a .counter) (a .slot .0) (now (a .history)) (c .before .pre .0))
 
-pub start-spec : {M : Type 1} → statement M
-start-spec = tie.close (tie.spec mul-history element-write-history returns returns-2)
+pub keep-start-spec : {M : Type 1} → statement M
+keep-start-spec = tie.close (tie.spec mul-history element-write-history returns returns-2)

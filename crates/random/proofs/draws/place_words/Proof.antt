@@ -2,19 +2,19 @@ use Prim.Native.Nat.{_-_, _≤_}
 use mathlib.Core.Path.{_≡_}
 use native.Mathlib.Omega.{arith}
 use lib.ListN.{length}
-use Rattle.random.specs.Table.{Put}
-use Rattle.random.proofs.Tables.{put-none, put-more}
-use Rattle.random.proofs.draws.put.Statement.{statement}
-use Rattle.random.proofs.draws.put.Tie as tie
+use Rattle.random.specs.Table.{Placed}
+use Rattle.random.proofs.Tables.{placed-none, placed-more}
+use Rattle.random.proofs.draws.place_words.Statement.{statement}
+use Rattle.random.proofs.draws.place_words.Tie as tie
 
 abbrev Inv-loop : tie.InvT-loop
-Inv-loop words stream₀ at i₀ i-end stream i = (i ≤ length words) × Put words at i stream₀ stream
+Inv-loop words stream₀ at i₀ i-end stream i = (i ≤ length words) × Placed words at i stream₀ stream
 
 abbrev μ-loop : tie.MeasureT-loop
 μ-loop words stream₀ at i₀ i-end stream i = length words - i
 
 loop-holds : tie.Need-loop-holds Inv-loop μ-loop
-loop-holds c = (omega arith, put-none _ _ _)
+loop-holds c = (omega arith, placed-none _ _ _)
 
 mul-stream : tie.Need-mul-stream Inv-loop μ-loop
 mul-stream c = omega arith
@@ -38,15 +38,15 @@ loop-less : tie.Need-loop-less Inv-loop μ-loop
 loop-less c = omega arith
 
 loop-again : tie.Need-loop-again Inv-loop μ-loop
-loop-again c = (omega arith, put-more (c .before .before .loop .inv .1))
+loop-again c = (omega arith, placed-more (c .before .before .loop .inv .1))
 
 returns : tie.Need-returns Inv-loop μ-loop
 returns c =
     let all : c .before .loop .i ≡ length (c .before .before .args .words .now) = omega (arith, c .before .loop .inv .0) in
     rw all at (c .before .loop .inv .1)
 
-pub put-spec : {M : Type 1} → statement M
-put-spec =
+pub place-words-spec : {M : Type 1} → statement M
+place-words-spec =
     tie.close
     (tie.spec
     Inv-loop

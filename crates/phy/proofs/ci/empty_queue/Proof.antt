@@ -5,8 +5,8 @@ use native.Mathlib.Omega.{arith}
 use borrow.Author.Count.{below-more}
 use lib.ListN.{length, getD, set, length-set}
 use lib.Seq.{getD-set-other}
-use Rattle.phy.proofs.ci.clear.Statement.{statement}
-use Rattle.phy.proofs.ci.clear.Tie as tie
+use Rattle.phy.proofs.ci.empty_queue.Statement.{statement}
+use Rattle.phy.proofs.ci.empty_queue.Tie as tie
 
 -- a place that is set to 0 reads 0, and so does one past the end
 emptied : (l : List ℕ) (i : ℕ) → getD (set l i 0) i 0 ≡ 0
@@ -47,5 +47,5 @@ loop-again c =
 returns : tie.Need-returns Inv-loop μ-loop
 returns c = let l = c .before .loop in record { size = l .inv .1; empty = λ k h. l .inv .2 k (omega (arith, h)) }
 
-pub clear-spec : {M : Type 1} → statement M
-clear-spec = tie.close (tie.spec Inv-loop μ-loop loop-holds mul-queue element-write-queue add-i loop-less loop-again returns)
+pub empty-queue-spec : {M : Type 1} → statement M
+empty-queue-spec = tie.close (tie.spec Inv-loop μ-loop loop-holds mul-queue element-write-queue add-i loop-less loop-again returns)

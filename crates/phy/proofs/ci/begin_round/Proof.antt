@@ -5,11 +5,11 @@ use borrow.Author.Needs.{needs}
 use denote.Ref.{now}
 use lib.ListN.{set}
 use lib.Pow.{pow-lt}
+use Rattle.config.specs.Limits.{wordBits}
 use Rattle.network.proofs.Sets.{one-shl}
-use Rattle.phy.specs.Limits.{setBits}
 use Rattle.phy.proofs.Masks.{or-shifted-bit}
-use Rattle.phy.proofs.ci.begin.Statement.{statement}
-use Rattle.phy.proofs.ci.begin.Tie as tie
+use Rattle.phy.proofs.ci.begin_round.Statement.{statement}
+use Rattle.phy.proofs.ci.begin_round.Tie as tie
 
 shl-own : tie.Need-shl-own
 shl-own c = search needs
@@ -36,17 +36,17 @@ sub-y : tie.Need-sub-y
 sub-y c =
     let start = c .before .before .before .before in
     let first = start .args .initiator .0 in
-    subst⁻¹ (λ (own : ℕ). own ≤ c .full-set .result) (one-shl setBits first (omega (arith, start .pre .few, start .pre .node))) (omega (arith, c .full-set .ensures, pow-lt (start .pre .node)))
+    subst⁻¹ (λ (own : ℕ). own ≤ c .full-set .result) (one-shl wordBits first (omega (arith, start .pre .few, start .pre .node))) (omega (arith, c .full-set .ensures, pow-lt (start .pre .node)))
 
 returns : tie.Need-returns
 returns c =
     let start = c .before .before .before .before .before in
     let x = start .args .x in
     let first = start .args .initiator .0 in
-    let small : first < setBits = omega (arith, start .pre .few, start .pre .node) in
-    let own = one-shl setBits first small in
+    let small : first < wordBits = omega (arith, start .pre .few, start .pre .node) in
+    let own = one-shl wordBits first small in
     let whole = c .before .full-set .ensures in
-    let held = or-shifted-bit setBits {s = x .holding} {j = first} (omega arith) small in
+    let held = or-shifted-bit wordBits {s = x .holding} {j = first} (omega arith) small in
     record {
       flood = λ i.
           record {
@@ -66,8 +66,8 @@ returns c =
       held = c .before .before .give .ensures;
     }
 
-pub begin-spec : {M : Type 1} → statement M
-begin-spec =
+pub begin-round-spec : {M : Type 1} → statement M
+begin-round-spec =
     tie.close
     (tie.spec
     shl-own
