@@ -21,15 +21,17 @@ use phy::packet::LastAccepted;
 use phy::packet::Nack;
 use phy::packet::Piggyback;
 ghost use mathlib.Core.Path.{_≡_};
-ghost use mathlib.Core.Bool.{false, _&&_};
+ghost use mathlib.Core.Bool.{false, not, _&&_, _||_};
 ghost use Prim.Native.Nat.{_+_, _≤_, _<_, max};
-ghost use lib.Dec.{leb};
+ghost use lib.Dec.{eqb, leb, ltb};
+ghost use lib.ListN.{length};
 ghost use Rattle.config.specs.Limits.{wordBits, maxTerms};
-ghost use Rattle.network.specs.Graph.{has};
+ghost use Rattle.network.specs.Graph.{has, all};
 ghost use Rattle.phy.specs.declared.packet.LastAccepted.{LastAccepted};
+ghost use Rattle.protocol.specs.Layout.{nodeSize};
 ghost use Rattle.protocol.specs.Paxos.{size, majority, held, hold, holdNew, mergeVotesUpTo, greatestQuorum, commitTerm, detectGap, recovery};
 ghost use Rattle.protocol.specs.Turns.{votesOf};
-ghost use Rattle.protocol.specs.View.{view, Kept, MayHold, Step, Commits, lastBelow, termBelow, loggedSet};
+ghost use Rattle.protocol.specs.View.{view, Kept, MayHold, Step, Commits, lastBelow, termBelow, votesAt, loggedSet};
 
 // A term that is missing, or none.
 pub enum Gap {
@@ -87,8 +89,21 @@ fn is_quorum(votes: u64, own: u64, pending: u64, t: usize, n: usize) -> bool
     is_majority(votes, n)
 }
 
+// Whether a term from one on and below another has other votes than the node's own, in a loop without a
+// branch.
+fn others_voted(states: &[u64], at: usize, own: u64, first: usize, end: usize) -> bool
+    requires { ⌜ (at + nodeSize ≤ length (now states)) × (first ≤ «end») × («end» ≤ maxTerms) ⌝ }
+    ensures { λ r. ⌜ r ≡ not (all «end» (λ t. ltb t first || eqb (votesAt (now (states .entry)) at t) own)) ⌝ }
+{
+    let mut other = 0u64;
+    for t in first..end {
+        other |= states[at + t] ^ own;
+    }
+    other != 0
+}
+
 // The greatest pending term that has a quorum, or none, of a node among two or more: from the highest
-// pending term down to the lowest, in a plain loop.
+// pending term down to the lowest, in a plain loop. The node's own votes alone are none.
 pub fn greatest_quorum(states: &[u64], at: usize, node: NodeId, n: usize) -> LastAccepted
     requires { ⌜ Kept maxTerms (now states) at × (node .0 < wordBits) × (2 ≤ n) ⌝ }
     ensures { λ r. ⌜ r ≡ greatestQuorum maxTerms n (view (now (states .entry)) at) ⌝ }
@@ -100,6 +115,9 @@ pub fn greatest_quorum(states: &[u64], at: usize, node: NodeId, n: usize) -> Las
     let own = 1u64 << node.0;
     let first = u64::trailing_zeros(pending) as usize;
     let mut t = MAX_TERMS - u64::leading_zeros(pending) as usize;
+    if !others_voted(states, at, own, first, t) {
+        return LastAccepted::None;
+    }
     while first < t {
         t -= 1;
         if is_quorum(states[at + t], own, pending, t, n) {
