@@ -10,15 +10,14 @@ pub mod Snapshots
 pub mod Attempts
 pub mod Count
 pub mod Counts
+pub mod Payloads
 pub mod Packets
-pub mod Numbers
 pub mod Starred
 pub mod Tries
 pub mod Reached
 pub mod Wave
 pub mod Lossless
 pub mod Due
-pub mod Deliveries
 pub mod Lent
 pub mod Through
 pub mod Element

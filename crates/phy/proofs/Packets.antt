@@ -10,9 +10,8 @@ use Rattle.phy.specs.declared.packet.LastAccepted.{LastAccepted}
 use Rattle.phy.specs.declared.packet.Nack.{Nack}
 use Rattle.phy.specs.declared.packet.Data.{Data}
 use Rattle.phy.specs.declared.packet.Piggyback.{Piggyback}
-use Rattle.phy.specs.declared.packet.Part.{Part}
 use Rattle.phy.specs.declared.packet.Packet.{Packet}
-use Rattle.phy.specs.Packets.{nackPart, acceptedPart, dataPart, backPart, backData, samePart, samePacket}
+use Rattle.phy.specs.Packets.{Part, nackPart, acceptedPart, dataPart, backPart, backData, samePart, samePacket}
 
 -- ---- a part tells what it is a part of
 abbrev pick : {A : Type 0} → A → (Term → A) → Part → A

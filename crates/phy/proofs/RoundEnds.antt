@@ -1,39 +1,33 @@
 -- A round's begin and end, as the code keeps them. Assumes nothing.
-use Prim.Native.Nat.{ℕ, zero, suc, _+_, _-_, _*_, _^_, _≤_, _<_}
-use mathlib.Core.Path.{_≡_, refl, sym, ap, ap₂, subst, subst⁻¹, _∙_}
-use mathlib.Core.Bool.{Bool, true, false, not, cond, _&&_, _||_}
+use Prim.Native.Nat.{ℕ, zero, suc, _+_, _-_, _^_, _≤_, _<_}
+use mathlib.Core.Path.{_≡_, refl, sym, ap, ap₂, subst⁻¹, _∙_}
+use mathlib.Core.Bool.{Bool, true, false, not, cond, _&&_, _||_, or-comm}
 use mathlib.Core.List.{List}
 use mathlib.Core.Logic.{_⊎_, inl, inr, ⊎-elim}
-use native.Mathlib.Nat.{pow-suc, lt-of-lt-of-le, zero-add}
+use native.Mathlib.Nat.{pow-suc, zero-add}
 use native.Mathlib.Omega.{arith}
-use lib.Bits.{bitOr}
+use lib.Bits.{bitAnd, bitOr, or-lt}
 use lib.Dec.{eqb}
-use lib.Pow.{pow-mono}
+use lib.Pow.{pow-pos, pow-lt}
 use lib.ListN.{length, getD, set, length-set}
 use lib.Seq.{getD-set-same, getD-set-other}
-use borrow.Author.Tests.{eqb-true, eqb-false, eq-eqb, ne-eqb, lt-ltb, not-true, not-false}
-use Rattle.config.specs.Limits.{wordBits}
+use borrow.Author.Tests.{eqb-true, eqb-false, eq-eqb, ne-eqb, lt-ltb}
 use Rattle.network.specs.Graph.{has, setOf}
-use Rattle.network.proofs.Sets.{two, has-or, has-one, has-setOf, setOf-cong, setOf-lt, setOf-one}
+use Rattle.network.proofs.Lowest.{has-minus}
+use Rattle.network.proofs.Sets.{two, has-or, has-one, has-full, has-setOf, setOf-cong, setOf-one}
 use Rattle.random.proofs.Tables.{getD-tabulate}
-use Rattle.phy.specs.declared.ci.Delivered.{Delivered}
 use Rattle.phy.specs.declared.node.Node.{Node}
 use Rattle.phy.specs.declared.node.NodeState.{NodeState}
 use Rattle.phy.specs.declared.node.NodeState.the-variants.{Listen, Flood, Sleep}
-use Rattle.phy.specs.declared.node.Payload.{Payload}
 use Rattle.phy.specs.declared.packet.Packet.{Packet}
 use Rattle.phy.specs.declared.slot.Flood.{Flood as Floods}
 use Rattle.phy.specs.declared.slot.Settings.{Settings}
-use Rattle.phy.specs.Limits.{packetSize}
 use Rattle.phy.specs.Node.{new, begunBy, deliveredTo, holding, listens, floods, sleeps, isListening, isFlooding, isSleeping}
-use Rattle.phy.specs.Packets.{packetNumbers, holds}
-use Rattle.phy.specs.Slot.{Standing, at, insert, sumOf}
-use Rattle.phy.specs.Round.{begun, delivered, withNodes, participants, coverage}
-use Rattle.phy.specs.View.{tables, Gave, Holding, Stands, Queued, InSlot, Emptied, placeAfter, begunFlood, CanBegin, Begins, Delivers, sameNumbers}
-use Rattle.phy.proofs.Masks.{has-zero, has-insert, insert-lt}
-use Rattle.phy.proofs.Nodes.{delivered-state, count-cong, total-begun, total-delivered}
-use Rattle.phy.proofs.Numbers.{same-numbers}
-use Rattle.phy.proofs.Packets.{same-packet-itself}
+use Rattle.phy.specs.Slot.{Standing, at, sumOf}
+use Rattle.phy.specs.Round.{begun, delivered, withNodes, participants}
+use Rattle.phy.specs.View.{tables, Stands, Queued, InSlot, Emptied, placeAfter, begunFlood, CanBegin, Begins}
+use Rattle.phy.proofs.Masks.{has-zero, set-is}
+use Rattle.phy.proofs.Nodes.{delivered-state, total-begun, total-delivered}
 use Rattle.phy.proofs.Steps.{sum-cong}
 
 -- ---- the set of all nodes but one
@@ -49,9 +43,18 @@ two-parts (suc n) f = omega (arith, two-parts n f, pow-suc 2 n, one (f n))
 pub all-but : (n first : ℕ) → first < n → setOf n (λ (j : ℕ). not (eqb j first)) ≡ 2 ^ n - 1 - 2 ^ first
 all-but n first h = omega (arith, two-parts n (λ (j : ℕ). eqb j first), setOf-one n first h)
 
+-- ---- the nodes that took part, as a word
+pub took-part : (n first awake : ℕ) → first < n
+    → bitOr (2 ^ n - 1 - bitAnd (2 ^ n - 1) awake) (2 ^ first) ≡ setOf n (λ (k : ℕ). eqb k first || not (has awake k))
+took-part n first awake few =
+    set-is n _ (or-lt n (2 ^ n - 1 - bitAnd (2 ^ n - 1) awake) (2 ^ first) (omega (arith, pow-pos n)) (pow-lt few))
+    (λ j p.
+    has-or _ (2 ^ first) j
+    ∙ ap₂ _||_ (has-minus (2 ^ n - 1) awake j ∙ ap (λ (b : Bool). b && not (has awake j)) (has-full n j p)) (has-one n first j few p)
+    ∙ or-comm (not (has awake j)) (eqb j first))
+
 -- ---- a round begins
-module _ (n repeats first : ℕ) (packet : Packet) (x : Floods) (h h' b₀ b : List ℕ) (s : Standing) (few : first < n) (most : n ≤ wordBits) (some : 1 ≤ repeats)
-    (gave : Gave first (packetNumbers packet) h h') (st : Stands n x h b₀ b s) where
+module _ (n repeats first : ℕ) (packet : Packet) (x : Floods) (b₀ b : List ℕ) (s : Standing) (few : first < n) (some : 1 ≤ repeats) (st : Stands n x b₀ b s) where
   abbrev nodes : List Node
   nodes = s .nodes
 
@@ -115,38 +118,11 @@ module _ (n repeats first : ℕ) (packet : Packet) (x : Floods) (h h' b₀ b : L
           ∙ empty i j l (eqb-false i (repeats - 1) u)
           ∙ sym (ap (λ (c : Bool). c && eqb (at opened j .«flood_remaining») (i + 1)) f)
 
-  held-then : (j : ℕ) → j < n → Holding h' (insert first (x .holding)) j (at opened j .payload)
-  held-then j p =
-      subst (λ (v : Node). Holding h' (insert first (x .holding)) j (v .payload)) (sym (each j p))
-      (⊎-elim own other (two (eqb j first)))
-    where
-      bit : has (insert first (x .holding)) j ≡ eqb j first || has (x .holding) j
-      bit = has-insert wordBits (st .holders) (omega arith) j (omega arith)
-
-      own : eqb j first ≡ true → Holding h' (insert first (x .holding)) j (begunBy (eqb j first) packet repeats (at nodes j) .payload)
-      own e =
-          subst (λ (c : Bool). Holding h' (insert first (x .holding)) j (begunBy c packet repeats (at nodes j) .payload)) (sym e) (
-            bit ∙ ap (λ (c : Bool). c || has (x .holding) j) e,
-            λ k q. ap (λ (i : ℕ). getD h' (packetSize * i + k) 0) (eqb-true j first e) ∙ gave .given k q,
-          )
-
-      kept : (v : Payload) → eqb j first ≡ false → Holding h (x .holding) j v → Holding h' (insert first (x .holding)) j v
-      kept Payload.None e q = bit ∙ ap₂ _||_ e q
-      kept (Payload.Of r) e q = (bit ∙ ap₂ _||_ e (q .0), λ k u. gave .others j k (eqb-false j first e) u ∙ q .1 k u)
-
-      other : eqb j first ≡ false → Holding h' (insert first (x .holding)) j (begunBy (eqb j first) packet repeats (at nodes j) .payload)
-      other e =
-          subst (λ (c : Bool). Holding h' (insert first (x .holding)) j (begunBy c packet repeats (at nodes j) .payload)) (sym e)
-          (kept (at nodes j .payload) e (st .held j p))
-
-  begun-stands : Stands n (begunFlood n first x) h' b₀ b (withNodes opened s)
+  begun-stands : Stands n (begunFlood n first x) b₀ b (withNodes opened s)
   begun-stands =
       record {
         listening = sym (all-but n first few) ∙ setOf-cong n (λ j p. sym (listening-then j p));
         flooding = sym (setOf-one n first few) ∙ setOf-cong n (λ j p. sym (flooding-then j p));
-        room = gave .size ∙ st .room;
-        held = held-then;
-        holders = insert-lt wordBits (st .holders) (omega arith);
         listens = st .listens ∙ sym (same-count (λ (v : Node). v .«slots_listen») (λ v. refl) (λ v. refl));
         floods = st .floods ∙ sym (same-count (λ (v : Node). v .«slots_flood») (λ v. refl) (λ v. refl));
         sleeps = st .sleeps ∙ sym (same-count (λ (v : Node). v .«slots_sleep») (λ v. refl) (λ v. refl));
@@ -158,39 +134,20 @@ module _ (n repeats first : ℕ) (packet : Packet) (x : Floods) (h h' b₀ b : L
       }
 
 -- the same of what the code's begin gave
-pub opens : (g : Settings) (first : ℕ) (packet : Packet) {key : List ℕ} {x y : Floods} {e₀ e e' w h h' b₀ b : List ℕ} {s : Standing} → CanBegin g first h → g .repeats ≤ length e₀
-    → Emptied (g .repeats) e₀ e → key ≡ packetNumbers packet → Begins g first key x e h y e' h' → Stands (g .nodes) x h b₀ b s
-    → InSlot g 0 y (tables e' w b) h' b₀ (withNodes (begun (g .nodes) (g .repeats) first packet (s .nodes)) s)
-opens g first packet {key} {x} {y} {e₀} {e} {e'} {w} {h} {h'} {b₀} {b} {s} can room cleared k begins st =
+pub opens : (g : Settings) (first : ℕ) (packet : Packet) {x y : Floods} {e₀ e e' w b₀ b : List ℕ} {s : Standing} → CanBegin g first → g .repeats ≤ length e₀
+    → Emptied (g .repeats) e₀ e → Begins g first x e y e' → Stands (g .nodes) x b₀ b s
+    → InSlot g 0 y (tables e' w b) b₀ (withNodes (begun (g .nodes) (g .repeats) first packet (s .nodes)) s)
+opens g first packet {x} {y} {e₀} {e} {e'} {w} {b₀} {b} {s} can room emptied begins st =
     let n = g .nodes in
-    let gave = subst (λ (m : List ℕ). Gave first m h h') k (begins .held) in
     record {
-      stands = subst⁻¹ (λ (z : Floods). Stands n z h' b₀ b (withNodes (begun n (g .repeats) first packet (s .nodes)) s)) (begins .flood)
-          (begun-stands n (g .repeats) first packet x h h' b₀ b s (can .node) (omega (arith, can .few)) (can .repeats .0) gave st);
+      stands = subst⁻¹ (λ (z : Floods). Stands n z b₀ b (withNodes (begun n (g .repeats) first packet (s .nodes)) s)) (begins .flood)
+          (begun-stands n (g .repeats) first packet x b₀ b s (can .node) (can .repeats .0) st);
       queued = subst⁻¹ (λ (m : List ℕ). Queued n (g .repeats) m 0 (begun n (g .repeats) first packet (s .nodes))) (begins .queue)
-          (begun-queued n (g .repeats) first packet x h h' b₀ b s (can .node) (omega (arith, can .few)) (can .repeats .0) gave st e (omega (arith, room, cleared .size)) (cleared .empty));
+          (begun-queued n (g .repeats) first packet x b₀ b s (can .node) (can .repeats .0) st e (omega (arith, room, emptied .size)) (emptied .empty));
     }
 
 -- ---- a round ends
--- another set of nodes holds a packet
-abbrev heldFlood : ℕ → Floods → Floods
-heldFlood set x =
-    record {
-      listening = x .listening;
-      flooding = x .flooding;
-      holding = set;
-      «slots_listen» = x .«slots_listen»;
-      «slots_flood» = x .«slots_flood»;
-      «slots_sleep» = x .«slots_sleep»;
-      attempts = x .attempts;
-      successes = x .successes;
-      slot = x .slot;
-      «next_snapshot» = x .«next_snapshot»;
-      snapshots = x .snapshots;
-    }
-
-module _ (n first : ℕ) (packet : Packet) (x : Floods) (r : Delivered) (h h' b₀ b : List ℕ) (s : Standing) (most : n ≤ wordBits)
-    (st : Stands n x h b₀ b s) (d : Delivers n first (packetNumbers packet) (bitOr (x .listening) (x .flooding)) (x .holding) h r h') where
+module _ (n first : ℕ) (packet : Packet) (x : Floods) (b₀ b : List ℕ) (s : Standing) (st : Stands n x b₀ b s) where
   abbrev awake : ℕ
   awake = bitOr (x .listening) (x .flooding)
 
@@ -224,48 +181,11 @@ module _ (n first : ℕ) (packet : Packet) (x : Floods) (r : Delivered) (h h' b�
   same-sum : (f : Node → ℕ) → ((v : Node) → f (holding packet v) ≡ f v) → sumOf f given n ≡ sumOf f (s .nodes) n
   same-sum f e = sum-cong f (s .nodes) given n (λ j p. ap f (got j p) ∙ field-of f (at (s .nodes) j) (e (at (s .nodes) j)))
 
-  covered-by : (j : ℕ) → j < n → not (has awake j) || (has (x .holding) j && sameNumbers h (packetNumbers packet) j) ≡ holds packet (at given j .payload)
-  covered-by j p =
-      ap (λ (c : Bool). c || (has (x .holding) j && sameNumbers h (packetNumbers packet) j)) (asleep j p)
-      ∙ go (isSleeping (at (s .nodes) j)) (at (s .nodes) j) (st .held j p)
-      ∙ ap (λ (v : Node). holds packet (v .payload)) (sym (got j p))
-    where
-      kept : (v : Payload) → Holding h (x .holding) j v → has (x .holding) j && sameNumbers h (packetNumbers packet) j ≡ holds packet v
-      kept Payload.None q = ap (λ (c : Bool). c && sameNumbers h (packetNumbers packet) j) q
-      kept (Payload.Of w) q = ap₂ _&&_ (q .0) (same-numbers packet w h j (q .1))
-
-      go : (c : Bool) (v : Node) → Holding h (x .holding) j (v .payload) → c || (has (x .holding) j && sameNumbers h (packetNumbers packet) j) ≡ holds packet (cond c (holding packet v) v .payload)
-      go true v q = sym (same-packet-itself packet)
-      go false v q = kept (v .payload) q
-
-  held-after : (j : ℕ) → j < n → Holding h' (r .holding) j (at given j .payload)
-  held-after j p =
-      subst (λ (v : Node). Holding h' (r .holding) j (v .payload)) (sym (got j p))
-      (go (isSleeping (at (s .nodes) j)) refl)
-    where
-      bit : has (r .holding) j ≡ not (has awake j) || has (x .holding) j
-      bit = ap (λ (k : ℕ). has k j) (d .holding) ∙ has-setOf n _ j p
-
-      kept : (v : Payload) → has awake j ≡ true → Holding h (x .holding) j v → Holding h' (r .holding) j v
-      kept Payload.None e q = bit ∙ ap₂ _||_ (ap not e) q
-      kept (Payload.Of w) e q = (bit ∙ ap₂ _||_ (ap not e) (q .0), λ k u. d .kept j p e k u ∙ q .1 k u)
-
-      go : (c : Bool) → isSleeping (at (s .nodes) j) ≡ c → Holding h' (r .holding) j (cond c (holding packet (at (s .nodes) j)) (at (s .nodes) j) .payload)
-      go true e =
-          let off : not (has awake j) ≡ true = asleep j p ∙ e in
-          (bit ∙ ap (λ (c : Bool). c || has (x .holding) j) off, λ k u. d .given j p (not-true (has awake j) off) k u)
-      go false e = kept (at (s .nodes) j .payload) (not-false (has awake j) (asleep j p ∙ e)) (st .held j p)
-
-  delivered-stands : (y : Floods) → y ≡ heldFlood (r .holding) x
-      → Stands n y h' b₀ b (withNodes given s)
-  delivered-stands y e =
-      subst⁻¹ (λ (z : Floods). Stands n z h' b₀ b (withNodes given s)) e
-      (record {
+  pub delivered-stands : Stands n x b₀ b (withNodes given s)
+  delivered-stands =
+      record {
         listening = st .listening ∙ setOf-cong n (λ j p. ap listens (sym (same-state j p)));
         flooding = st .flooding ∙ setOf-cong n (λ j p. ap floods (sym (same-state j p)));
-        room = d .size ∙ st .room;
-        held = held-after;
-        holders = subst⁻¹ (λ (k : ℕ). k < 2 ^ 64) (d .holding) (lt-of-lt-of-le (setOf-lt n _) (pow-mono most));
         listens = st .listens ∙ sym (same-sum (λ (v : Node). v .«slots_listen») (λ v. refl));
         floods = st .floods ∙ sym (same-sum (λ (v : Node). v .«slots_flood») (λ v. refl));
         sleeps = st .sleeps ∙ sym (same-sum (λ (v : Node). v .«slots_sleep») (λ v. refl));
@@ -274,23 +194,8 @@ module _ (n first : ℕ) (packet : Packet) (x : Floods) (r : Delivered) (h h' b�
         successes = st .successes;
         slot = st .slot;
         shots = st .shots;
-      })
+      }
 
-  delivered-part : r .part ≡ participants n first given
+  pub delivered-part : setOf n (λ (k : ℕ). eqb k first || not (has awake k)) ≡ participants n first given
   unfolding participants
-  delivered-part = d .part ∙ setOf-cong n (λ j p. ap (λ (c : Bool). eqb j first || c) (asleep j p ∙ ap sleeps (sym (same-state j p))))
-
-  delivered-covered : r .covered ≡ coverage n packet given
-  unfolding coverage
-  delivered-covered = d .covered ∙ count-cong n _ _ covered-by
-
--- the same of what the code's end gave
-pub closes : (n first : ℕ) (packet : Packet) {key : List ℕ} {x y : Floods} {r : Delivered} {h h' b₀ b : List ℕ} {s : Standing} → n ≤ wordBits → key ≡ packetNumbers packet
-    → y ≡ heldFlood (r .holding) x
-    → Delivers n first key (bitOr (x .listening) (x .flooding)) (x .holding) h r h' → Stands n x h b₀ b s
-    → Stands n y h' b₀ b (withNodes (delivered n packet (s .nodes)) s)
-    × (r .part ≡ participants n first (delivered n packet (s .nodes)))
-    × (r .covered ≡ coverage n packet (delivered n packet (s .nodes)))
-closes n first packet {key} {x} {y} {r} {h} {h'} {b₀} {b} {s} most k e d st =
-    let d' = subst (λ (m : List ℕ). Delivers n first m (bitOr (x .listening) (x .flooding)) (x .holding) h r h') k d in
-    (delivered-stands n first packet x r h h' b₀ b s most st d' y e, delivered-part n first packet x r h h' b₀ b s most st d', delivered-covered n first packet x r h h' b₀ b s most st d')
+  delivered-part = setOf-cong n (λ j p. ap (λ (c : Bool). eqb j first || c) (asleep j p ∙ ap sleeps (sym (same-state j p))))

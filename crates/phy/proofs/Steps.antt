@@ -28,7 +28,7 @@ use Rattle.phy.specs.declared.snapshot.Schedule.{Schedule}
 use Rattle.phy.specs.Limits.{mostSlots}
 use Rattle.phy.specs.Node.{tick, tickIn, transition, transitionIn, listens, floods, sleeps, isListening, isFlooding, isSleeping}
 use Rattle.phy.specs.Slot.{Setup, Shots, Standing, at, sumOf, ticked, moved, snapshot, attemptAll, triesIn, takeWhile, slotStep}
-use Rattle.phy.specs.View.{Tables, tables, asSetup, triesOf, receiversOf, shownOf, shotOf, TakesDue, awakeAfter, Advances, placeAfter, Queued, Holding, Stands, InSlot}
+use Rattle.phy.specs.View.{Tables, tables, asSetup, triesOf, receiversOf, shownOf, shotOf, TakesDue, awakeAfter, Advances, placeAfter, Queued, Stands, InSlot}
 use Rattle.phy.proofs.Nodes.{tick-state, at-ticked, at-moved, total-slot, ones-setOf, three-states}
 use Rattle.phy.proofs.Counts.{all-slots}
 use Rattle.phy.proofs.Masks.{has-and, set-is}
@@ -54,16 +54,15 @@ record Followed (st : NodeState) (repeats : ℕ) (heard : Bool) (v w : Node) : T
   left : isFlooding w ≡ true → (1 ≤ w .«flood_remaining») × (w .«flood_remaining» ≤ repeats)
   later : (i : ℕ) → i + 1 < repeats → isFlooding w && eqb (w .«flood_remaining») (i + 1) ≡ floods st && eqb (v .«flood_remaining») (i + 1 + 1)
   newest : isFlooding w && eqb (w .«flood_remaining») repeats ≡ listens st && heard
-  payload : w .payload ≡ v .payload
   slots-listen : w .«slots_listen» ≡ v .«slots_listen» + cond (listens st) 1 0
   slots-flood : w .«slots_flood» ≡ v .«slots_flood» + cond (floods st) 1 0
   slots-sleep : w .«slots_sleep» ≡ v .«slots_sleep» + cond (sleeps st) 1 0
 
 -- a node that keeps its state, and does not flood
 stayed : (st : NodeState) (repeats : ℕ) (heard : Bool) (v w : Node) → w .state ≡ st → floods st ≡ false → listens st && heard ≡ false → listens st && not heard ≡ listens st
-    → w .payload ≡ v .payload → w .«slots_listen» ≡ v .«slots_listen» + cond (listens st) 1 0 → w .«slots_flood» ≡ v .«slots_flood» + 0 → w .«slots_sleep» ≡ v .«slots_sleep» + cond (sleeps st) 1 0
+    → w .«slots_listen» ≡ v .«slots_listen» + cond (listens st) 1 0 → w .«slots_flood» ≡ v .«slots_flood» + 0 → w .«slots_sleep» ≡ v .«slots_sleep» + cond (sleeps st) 1 0
     → Followed st repeats heard v w
-stayed st repeats heard v w e quiet deaf same-still pay l f z =
+stayed st repeats heard v w e quiet deaf same-still l f z =
     let silent : isFlooding w ≡ false = ap floods e ∙ quiet in
     record {
       listening = ap listens e ∙ sym same-still;
@@ -71,7 +70,6 @@ stayed st repeats heard v w e quiet deaf same-still pay l f z =
       left = λ g. never g silent;
       later = λ i b. ap (λ (c : Bool). c && eqb (w .«flood_remaining») (i + 1)) silent ∙ sym (ap (λ (c : Bool). c && eqb (v .«flood_remaining») (i + 1 + 1)) quiet);
       newest = ap (λ (c : Bool). c && eqb (w .«flood_remaining») repeats) silent ∙ sym deaf;
-      payload = pay;
       slots-listen = l;
       slots-flood = f ∙ ap (λ (b : Bool). v .«slots_flood» + cond b 1 0) (sym quiet);
       slots-sleep = z;
@@ -87,13 +85,12 @@ followed Listen repeats true v e some are =
       left = λ f. (some, omega arith);
       later = λ i l. ne-eqb repeats (i + 1) (λ q. absurd (omega (arith, q, l)));
       newest = eq-eqb repeats repeats refl;
-      payload = refl;
       slots-listen = refl;
       slots-flood = omega arith;
       slots-sleep = omega arith;
     }
-followed Listen repeats false v e some are = stayed Listen repeats false v (tickIn Listen v) e refl refl refl refl refl (omega arith) (omega arith)
-followed Sleep repeats heard v e some are = stayed Sleep repeats heard v (tickIn Sleep v) e refl refl refl refl (omega arith) (omega arith) refl
+followed Listen repeats false v e some are = stayed Listen repeats false v (tickIn Listen v) e refl refl refl refl (omega arith) (omega arith)
+followed Sleep repeats heard v e some are = stayed Sleep repeats heard v (tickIn Sleep v) e refl refl refl (omega arith) (omega arith) refl
 followed Flood repeats heard v e some are =
     record {
       listening = silent (eqb m 0);
@@ -101,7 +98,6 @@ followed Flood repeats heard v e some are =
       left = λ f. (positive m (two (eqb m 0)) f, omega (arith, are refl .1));
       later = λ i l. ap (λ (b : Bool). b && eqb m (i + 1)) (goes-on (eqb m 0)) ∙ again i (two (eqb m (i + 1))) ∙ pred-eqb (v .«flood_remaining») (i + 1) (are refl .0);
       newest = ap (λ (b : Bool). floods (cond (eqb m 0) Sleep Flood) && b) (ne-eqb m repeats (λ q. absurd (omega (arith, q, are refl .0, are refl .1)))) ∙ and-false (floods (cond (eqb m 0) Sleep Flood));
-      payload = refl;
       slots-listen = omega arith;
       slots-flood = refl;
       slots-sleep = omega arith;
@@ -219,9 +215,6 @@ module _ (n repeats reached : ℕ) (nodes : List Node) (x : Awake) (e : List ℕ
           ∙ q .stand (i + 1) j more b
           ∙ sym (step j b .later i more)
 
-  pub payload-now : (j : ℕ) → j < n → at afterwards j .payload ≡ at nodes j .payload
-  payload-now j b = step j b .payload
-
   pub listens-now : sumOf (λ (v : Node). v .«slots_listen») afterwards n ≡ sumOf (λ (v : Node). v .«slots_listen») nodes n + count n (λ (j : ℕ). isListening (at nodes j))
   listens-now = sum-more (λ (v : Node). v .«slots_listen») nodes afterwards (λ (j : ℕ). isListening (at nodes j)) n (λ j b. step j b .slots-listen)
 
@@ -232,7 +225,7 @@ module _ (n repeats reached : ℕ) (nodes : List Node) (x : Awake) (e : List ℕ
   sleeps-now = sum-more (λ (v : Node). v .«slots_sleep») nodes afterwards (λ (j : ℕ). isSleeping (at nodes j)) n (λ j b. step j b .slots-sleep)
 
 -- ---- the sums are nodes times slots, so that one slot more has room
-module _ (n : ℕ) {x : Floods} {h b₀ b : List ℕ} {s : Standing} {seen : Shown} {progress : ℕ} (few : n ≤ maxNodes) (early : x .slot .0 < mostSlots) (st : Stands n x h b₀ b s)
+module _ (n : ℕ) {x : Floods} {b₀ b : List ℕ} {s : Standing} {seen : Shown} {progress : ℕ} (few : n ≤ maxNodes) (early : x .slot .0 < mostSlots) (st : Stands n x b₀ b s)
     (seen-is : seen ≡ shownOf n progress (ones (x .listening)) (ones (x .flooding))) where
   sums : x .«slots_listen» + x .«slots_flood» + x .«slots_sleep» ≡ n * x .slot .0
   sums = omega (arith, st .listens, st .floods, st .sleeps, all-slots (s .nodes) n (x .slot .0) (λ j p. st .counted j p ∙ sym (st .slot)))
@@ -252,7 +245,7 @@ module _ (n : ℕ) {x : Floods} {h b₀ b : List ℕ} {s : Standing} {seen : Sho
   few-slots = (omega (arith, sums, bounded, early, shown-few .0), omega (arith, sums, bounded, early, shown-few .1), omega (arith, sums, bounded, early, shown-few .2))
 
 -- ---- a whole slot: what its parts gave leads where the definitions lead
-module _ (g : Settings) (rows : List ℕ) (heard : ℕ → Bool) (p : ℕ) (x : Floods) (t : Tables) (h b₀ : List ℕ) (s : Standing) (here : InSlot g p x t h b₀ s)
+module _ (g : Settings) (rows : List ℕ) (heard : ℕ → Bool) (p : ℕ) (x : Floods) (t : Tables) (b₀ : List ℕ) (s : Standing) (here : InSlot g p x t b₀ s)
     (seen : Shown) (seen-is : seen ≡ shownOf (g .nodes) (g .progress) (ones (x .listening)) (ones (x .flooding)))
     (taken : Schedule) (b' : List ℕ)
     (takes : TakesDue (g .interval) (x .slot .0) seen (record { next = record { 0 = x .«next_snapshot» .0 }; count = x .snapshots }) (t .snapshots) taken b')
@@ -262,7 +255,7 @@ module _ (g : Settings) (rows : List ℕ) (heard : ℕ → Bool) (p : ℕ) (x : 
   abbrev n : ℕ
   n = g .nodes
 
-  abbrev st : Stands n x h b₀ (t .snapshots) s
+  abbrev st : Stands n x b₀ (t .snapshots) s
   st = here .stands
 
   abbrev setup : Setup
@@ -328,7 +321,6 @@ module _ (g : Settings) (rows : List ℕ) (heard : ℕ → Bool) (p : ℕ) (x : 
       record {
         listening = r .listening;
         flooding = r .flooding;
-        holding = x .holding;
         «slots_listen» = x .«slots_listen» + seen .listening;
         «slots_flood» = x .«slots_flood» + seen .flooding;
         «slots_sleep» = x .«slots_sleep» + seen .sleeping;
@@ -339,14 +331,11 @@ module _ (g : Settings) (rows : List ℕ) (heard : ℕ → Bool) (p : ℕ) (x : 
         snapshots = taken .count;
       }
 
-  stands-there : Stands n after h b₀ b' there
+  stands-there : Stands n after b₀ b' there
   stands-there =
       record {
         listening = ap (λ (y : Awake). y .listening) (advances .awake) ∙ listening-now n (g .repeats) (tried .reached) (s .nodes) before (t .queue) p (st .listening) (st .flooding) (here .queued);
         flooding = ap (λ (y : Awake). y .flooding) (advances .awake) ∙ flooding-now n (g .repeats) (tried .reached) (s .nodes) before (t .queue) p (st .listening) (st .flooding) (here .queued);
-        room = st .room;
-        held = λ j b. subst (Holding h (x .holding) j) (sym (payload-now n (g .repeats) (tried .reached) (s .nodes) before (t .queue) p (st .listening) (st .flooding) (here .queued) j b)) (st .held j b);
-        holders = st .holders;
         listens = ap₂ _+_ (st .listens) listen-count ∙ sym (listens-now n (g .repeats) (tried .reached) (s .nodes) before (t .queue) p (st .listening) (st .flooding) (here .queued));
         floods = ap₂ _+_ (st .floods) flood-count ∙ sym (floods-now n (g .repeats) (tried .reached) (s .nodes) before (t .queue) p (st .listening) (st .flooding) (here .queued));
         sleeps = ap₂ _+_ (st .sleeps) sleep-count ∙ sym (sleeps-now n (g .repeats) (tried .reached) (s .nodes) before (t .queue) p (st .listening) (st .flooding) (here .queued));
@@ -357,9 +346,9 @@ module _ (g : Settings) (rows : List ℕ) (heard : ℕ → Bool) (p : ℕ) (x : 
         shots = takes .recorded b₀ (s .shots) (st .shots);
       }
 
-  pub slot-stands : (w : List ℕ) → InSlot g (placeAfter (g .repeats) p 1) after (tables e' w b') h b₀ (slotStep setup s)
+  pub slot-stands : (w : List ℕ) → InSlot g (placeAfter (g .repeats) p 1) after (tables e' w b') b₀ (slotStep setup s)
   slot-stands w =
-      subst (InSlot g (placeAfter (g .repeats) p 1) after (tables e' w b') h b₀) arrives
+      subst (InSlot g (placeAfter (g .repeats) p 1) after (tables e' w b') b₀) arrives
       (record {
         stands = stands-there;
         queued = subst (λ (l : List ℕ). Queued n (g .repeats) l (placeAfter (g .repeats) p 1) (there .nodes)) (sym (advances .queue))

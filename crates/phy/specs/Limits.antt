@@ -2,14 +2,6 @@
 use Prim.Native.Nat.{ℕ, _*_, _^_}
 use Rattle.config.specs.Limits.{wordBits, maxNodes, maxRepeats}
 
--- the numbers of a packet
-abbrev pub packetSize : ℕ
-packetSize = 13
-
--- the packets held: those of node i from packetSize times i on
-abbrev pub heldSize : ℕ
-heldSize = packetSize * maxNodes
-
 -- the queue of the flooding nodes: a place for each repeat
 abbrev pub queueSize : ℕ
 queueSize = maxRepeats

@@ -1,18 +1,20 @@
 -- Two packets are equal when all their fields are.
 use Prim.Native.Nat.{ℕ}
 use mathlib.Core.Bool.{Bool, false, _&&_}
-use mathlib.Core.List.{List, [], _∷_}
 use lib.Dec.{eqb}
 use Rattle.network.specs.declared.units.Term.{Term}
 use Rattle.phy.specs.declared.packet.LastAccepted.{LastAccepted}
 use Rattle.phy.specs.declared.packet.Nack.{Nack}
 use Rattle.phy.specs.declared.packet.Data.{Data}
 use Rattle.phy.specs.declared.packet.Piggyback.{Piggyback}
-use Rattle.phy.specs.declared.packet.Part.{Part}
 use Rattle.phy.specs.declared.packet.Packet.{Packet}
 use Rattle.phy.specs.declared.node.Payload.{Payload}
 
--- ---- parts of a packet that are none or a term
+-- ---- parts of a packet that are none or a term: whether there is one, and the term
+
+pub record Part : Type 0 where
+  pub given : ℕ
+  pub term : ℕ
 
 abbrev pub nothing : Part
 nothing = record { given = 0; term = 0 }
@@ -58,26 +60,3 @@ samePacket p q =
 abbrev pub holds : Packet → Payload → Bool
 holds p Payload.None = false
 holds p (Payload.Of q) = samePacket p q
-
--- a packet as numbers
-abbrev pub packetNumbers : Packet → List ℕ
-packetNumbers p =
-    let nack : Part = nackPart (p .«nack_term») in
-    let last : Part = acceptedPart (p .«last_accepted_term») in
-    let own : Part = dataPart (p .«proposal_data») in
-    let back : Part = backPart (p .piggyback) in
-    let again : Part = dataPart (backData (p .piggyback)) in
-    p .sender .0
-    ∷ p .«current_term» .0
-    ∷ p .«flags_bitmap»
-    ∷ nack .given
-    ∷ nack .term
-    ∷ last .given
-    ∷ last .term
-    ∷ own .given
-    ∷ own .term
-    ∷ back .given
-    ∷ back .term
-    ∷ again .given
-    ∷ again .term
-    ∷ []

@@ -1,6 +1,6 @@
 -- The values that the code's structs stand for, and what its functions promise of them.
 use Prim.Native.Nat.{ℕ, suc, _+_, _-_, _*_, _^_, _≤_, _<_}
-use mathlib.Core.Bool.{Bool, true, false, not, cond, _&&_, _||_}
+use mathlib.Core.Bool.{Bool, true, cond, _&&_}
 use mathlib.Core.List.{List, [], _∷_, flatten}
 use mathlib.Core.Path.{_≡_}
 use lib.Bits.{bitAnd, bitOr}
@@ -17,20 +17,17 @@ use Rattle.phy.specs.declared.slot.Awake.{Awake}
 use Rattle.phy.specs.declared.slot.Flood.{Flood}
 use Rattle.phy.specs.declared.snapshot.Shown.{Shown}
 use Rattle.phy.specs.declared.snapshot.Schedule.{Schedule}
-use Rattle.phy.specs.declared.ci.Delivered.{Delivered}
 use Rattle.phy.specs.declared.ci.Round.{Round}
 use Rattle.phy.specs.declared.packet.Packet.{Packet}
 use Rattle.phy.specs.declared.node.Node.{Node}
-use Rattle.phy.specs.declared.node.Payload.{Payload}
-use Rattle.phy.specs.Limits.{packetSize, heldSize, slotAttempts, mostSlots}
+use Rattle.phy.specs.Limits.{slotAttempts, mostSlots}
 use Rattle.phy.specs.Node.{total, isListening, isFlooding}
-use Rattle.phy.specs.Packets.{packetNumbers}
-use Rattle.phy.specs.Slot.{Setup, Tries, Shots, Standing, at, insert, sumOf, receivers, attemptAll, takeWhile, slotStep}
+use Rattle.phy.specs.Slot.{Setup, Tries, Shots, Standing, at, sumOf, receivers, attemptAll, takeWhile, slotStep}
 use Rattle.phy.specs.Snapshots.{snapshotsWith}
 use Rattle.phy.specs.Round.{slots as slotsOf, round}
 
 -- ---- the lent tables
--- what a slot is lent: the queue of the flooding nodes, the stream of the draws, and the buffer of the snapshots
+-- what a round is lent: the queue of the flooding nodes, the stream of the draws, and the buffer of the snapshots
 pub record Tables : Type 0 where
   pub queue : List ℕ
   pub stream : List ℕ
@@ -38,16 +35,6 @@ pub record Tables : Type 0 where
 
 abbrev pub tables : List ℕ → List ℕ → List ℕ → Tables
 tables queue stream snapshots = record { queue = queue; stream = stream; snapshots = snapshots }
-
--- what a round is lent: the packets held, too
-pub record Lent : Type 0 where
-  pub queue : List ℕ
-  pub stream : List ℕ
-  pub held : List ℕ
-  pub snapshots : List ℕ
-
-abbrev pub lent : List ℕ → List ℕ → List ℕ → List ℕ → Lent
-lent queue stream held snapshots = record { queue = queue; stream = stream; held = held; snapshots = snapshots }
 
 -- ---- attempts
 -- the setup of a run whose attempts have these outcomes
@@ -129,18 +116,10 @@ pub record Queued (n repeats : ℕ) (e : List ℕ) (p : ℕ) (nodes : List Node)
   pub left : (j : ℕ) → j < n → isFlooding (at nodes j) ≡ true → (1 ≤ at nodes j .«flood_remaining») × (at nodes j .«flood_remaining» ≤ repeats)
   pub stand : (i j : ℕ) → i < repeats → j < n → has (getD e (placeAfter repeats p i) 0) j ≡ isFlooding (at nodes j) && eqb (at nodes j .«flood_remaining») (i + 1)
 
--- node j is in the set of those that hold a packet, and its places of h are that packet's numbers
-abbrev pub Holding : List ℕ → ℕ → ℕ → Payload → Type 0
-Holding h set j Payload.None = has set j ≡ false
-Holding h set j (Payload.Of p) = (has set j ≡ true) × ((k : ℕ) → k < packetSize → getD h (packetSize * j + k) 0 ≡ getD (packetNumbers p) k 0)
-
--- The code stands at x, with the packets h held and the snapshots b, where the definitions stand at s. As the run began the buffer was b₀.
-pub record Stands (n : ℕ) (x : Flood) (h b₀ b : List ℕ) (s : Standing) : Type 0 where
+-- The code stands at x, with the snapshots b, where the definitions stand at s. As the run began the buffer was b₀.
+pub record Stands (n : ℕ) (x : Flood) (b₀ b : List ℕ) (s : Standing) : Type 0 where
   pub listening : x .listening ≡ setOf n (λ (j : ℕ). isListening (at (s .nodes) j))
   pub flooding : x .flooding ≡ setOf n (λ (j : ℕ). isFlooding (at (s .nodes) j))
-  pub room : length h ≡ heldSize
-  pub held : (j : ℕ) → j < n → Holding h (x .holding) j (at (s .nodes) j .payload)
-  pub holders : x .holding < 2 ^ 64
   -- the slots of all nodes in each state
   pub listens : x .«slots_listen» ≡ sumOf (λ (v : Node). v .«slots_listen») (s .nodes) n
   pub floods : x .«slots_flood» ≡ sumOf (λ (v : Node). v .«slots_flood») (s .nodes) n
@@ -153,18 +132,17 @@ pub record Stands (n : ℕ) (x : Flood) (h b₀ b : List ℕ) (s : Standing) : T
   pub shots : Scheduled (x .«next_snapshot» .0) (x .snapshots) b₀ b (s .shots)
 
 -- so it stands in a slot, with the queue from place p on
-pub record InSlot (g : Settings) (p : ℕ) (x : Flood) (t : Tables) (h b₀ : List ℕ) (s : Standing) : Type 0 where
-  pub stands : Stands (g .nodes) x h b₀ (t .snapshots) s
+pub record InSlot (g : Settings) (p : ℕ) (x : Flood) (t : Tables) (b₀ : List ℕ) (s : Standing) : Type 0 where
+  pub stands : Stands (g .nodes) x b₀ (t .snapshots) s
   pub queued : Queued (g .nodes) (g .repeats) (t .queue) p (s .nodes)
 
 -- the stream is a source of some outcomes, and the definitions stand somewhere
 pub record Meets (g : Settings) (p : ℕ) (x : Flood) (t : Tables) : Type 0 where
   pub heard : ℕ → Bool
   pub source : Source (g .rate) heard (x .attempts) (t .stream)
-  pub packets : List ℕ
   pub first : List ℕ
   pub standing : Standing
-  pub here : InSlot g p x t packets first standing
+  pub here : InSlot g p x t first standing
 
 -- What holds between slots: the counters have room, and the snapshots taken are those at the multiples of the interval.
 pub record Sound (g : Settings) (x : Flood) : Type 0 where
@@ -182,8 +160,8 @@ pub record Stepped (g : Settings) (rows : List ℕ) (p : ℕ) (x : Flood) (t : T
   pub slots : r .slot .0 ≡ x .slot .0 + 1
   pub source : (heard : ℕ → Bool) → Source (g .rate) heard (x .attempts) (t .stream) → Source (g .rate) heard (r .attempts) (t' .stream)
   pub stands : (heard : ℕ → Bool) → Source (g .rate) heard (x .attempts) (t .stream)
-      → (h b₀ : List ℕ) (s : Standing) → InSlot g p x t h b₀ s
-      → InSlot g (placeAfter (g .repeats) p 1) r t' h b₀ (slotStep (asSetup g rows heard) s)
+      → (b₀ : List ℕ) (s : Standing) → InSlot g p x t b₀ s
+      → InSlot g (placeAfter (g .repeats) p 1) r t' b₀ (slotStep (asSetup g rows heard) s)
 
 -- The same of the slots of a round, of which there are at most so many; the queue begins at place 0.
 pub record Slotted (g : Settings) (rows : List ℕ) (limit : ℕ) (x : Flood) (t : Tables) (r : Flood) (t' : Tables) : Type 0 where
@@ -192,29 +170,16 @@ pub record Slotted (g : Settings) (rows : List ℕ) (limit : ℕ) (x : Flood) (t
   pub room : g .repeats ≤ length (t' .queue)
   pub source : (heard : ℕ → Bool) → Source (g .rate) heard (x .attempts) (t .stream) → Source (g .rate) heard (r .attempts) (t' .stream)
   pub stands : (heard : ℕ → Bool) → Source (g .rate) heard (x .attempts) (t .stream)
-      → (h b₀ : List ℕ) (s : Standing) → InSlot g 0 x t h b₀ s
-      → Stands (g .nodes) r h b₀ (t' .snapshots) (slotsOf (asSetup g rows heard) limit s)
+      → (b₀ : List ℕ) (s : Standing) → InSlot g 0 x t b₀ s
+      → Stands (g .nodes) r b₀ (t' .snapshots) (slotsOf (asSetup g rows heard) limit s)
 
 -- ---- a round
--- node i's places are those numbers in h', and no other node's places are other ones
-pub record Gave (i : ℕ) (packet h h' : List ℕ) : Type 0 where
-  pub size : length h' ≡ length h
-  pub given : (m : ℕ) → m < packetSize → getD h' (packetSize * i + m) 0 ≡ getD packet m 0
-  pub others : (k m : ℕ) → (k ≡ i → ⊥) → m < packetSize → getD h' (packetSize * k + m) 0 ≡ getD h (packetSize * k + m) 0
-
--- the places of the nodes of a set are those numbers in h', and no other node's places are other ones
-pub record GaveAll (set : ℕ) (packet h h' : List ℕ) : Type 0 where
-  pub size : length h' ≡ length h
-  pub given : (k : ℕ) → has set k ≡ true → (m : ℕ) → m < packetSize → getD h' (packetSize * k + m) 0 ≡ getD packet m 0
-  pub others : (k : ℕ) → has set k ≡ false → (m : ℕ) → m < packetSize → getD h' (packetSize * k + m) 0 ≡ getD h (packetSize * k + m) 0
-
 -- all nodes listen but the initiator
 abbrev pub begunFlood : ℕ → ℕ → Flood → Flood
 begunFlood n first x =
     record {
       listening = 2 ^ n - 1 - 2 ^ first;
       flooding = 2 ^ first;
-      holding = insert first (x .holding);
       «slots_listen» = x .«slots_listen»;
       «slots_flood» = x .«slots_flood»;
       «slots_sleep» = x .«slots_sleep»;
@@ -226,39 +191,23 @@ begunFlood n first x =
     }
 
 -- what a round's begin is given
-pub record CanBegin (g : Settings) (first : ℕ) (h : List ℕ) : Type 0 where
+pub record CanBegin (g : Settings) (first : ℕ) : Type 0 where
   pub few : g .nodes ≤ maxNodes
   pub node : first < g .nodes
   pub repeats : (1 ≤ g .repeats) × (g .repeats ≤ maxRepeats)
-  pub room : length h ≡ heldSize
 
--- the initiator holds the packet, and stands at the last place of the queue
-pub record Begins (g : Settings) (first : ℕ) (packet : List ℕ) (x : Flood) (e h : List ℕ) (r : Flood) (e' h' : List ℕ) : Type 0 where
+-- the initiator stands at the last place of the queue
+pub record Begins (g : Settings) (first : ℕ) (x : Flood) (e : List ℕ) (r : Flood) (e' : List ℕ) : Type 0 where
   pub flood : r ≡ begunFlood (g .nodes) first x
   pub queue : e' ≡ set e (g .repeats - 1) (2 ^ first)
-  pub held : Gave first packet h h'
 
 -- the first places of a queue are empty
 pub record Emptied (count : ℕ) (e e' : List ℕ) : Type 0 where
   pub size : length e' ≡ length e
   pub empty : (i : ℕ) → i < count → getD e' i 0 ≡ 0
 
--- whether node k's places of h are these numbers
-abbrev pub sameNumbers : List ℕ → List ℕ → ℕ → Bool
-sameNumbers h packet k = all packetSize (λ (m : ℕ). eqb (getD h (packetSize * k + m) 0) (getD packet m 0))
-
--- the end of a round, at which the nodes that are not awake get the packet: who took part, how many are covered, who holds a packet, and
--- the packets held
-pub record Delivers (n first : ℕ) (packet : List ℕ) (awake before : ℕ) (h : List ℕ) (r : Delivered) (h' : List ℕ) : Type 0 where
-  pub part : r .part ≡ setOf n (λ (k : ℕ). eqb k first || not (has awake k))
-  pub covered : r .covered ≡ count n (λ (k : ℕ). not (has awake k) || (has before k && sameNumbers h packet k))
-  pub holding : r .holding ≡ setOf n (λ (k : ℕ). not (has awake k) || has before k)
-  pub size : length h' ≡ length h
-  pub given : (k : ℕ) → k < n → has awake k ≡ false → (m : ℕ) → m < packetSize → getD h' (packetSize * k + m) 0 ≡ getD packet m 0
-  pub kept : (k : ℕ) → k < n → has awake k ≡ true → (m : ℕ) → m < packetSize → getD h' (packetSize * k + m) 0 ≡ getD h (packetSize * k + m) 0
-
 -- what a round is given: the stream is a source of some outcomes, and the definitions stand somewhere
-pub record CanFlood (g : Settings) (limit initiator : ℕ) (x : Flood) (t : Lent) : Type 0 where
+pub record CanFlood (g : Settings) (limit initiator : ℕ) (x : Flood) (t : Tables) : Type 0 where
   pub sound : Sound g x
   pub node : initiator < g .nodes
   pub early : x .slot .0 + limit < mostSlots
@@ -267,17 +216,16 @@ pub record CanFlood (g : Settings) (limit initiator : ℕ) (x : Flood) (t : Lent
   pub source : Source (g .rate) heard (x .attempts) (t .stream)
   pub first : List ℕ
   pub standing : Standing
-  pub stands : Stands (g .nodes) x (t .held) first (t .snapshots) standing
+  pub stands : Stands (g .nodes) x first (t .snapshots) standing
 
 -- From x the code came to r in a round, of at most so many slots. For all outcomes that the stream is a source of, it still is one, and the
--- code stands where the round of the definitions leads.
-pub record Rounded (g : Settings) (rows : List ℕ) (limit initiator : ℕ) (packet : Packet) (x : Flood) (t : Lent) (r : Round) (t' : Lent) : Type 0 where
+-- code stands where the round of the definitions leads, whichever packet it floods.
+pub record Rounded (g : Settings) (rows : List ℕ) (limit initiator : ℕ) (x : Flood) (t : Tables) (r : Round) (t' : Tables) : Type 0 where
   pub sound : Sound g (r .flood)
   pub slots : r .flood .slot .0 ≤ x .slot .0 + limit
   pub room : g .repeats ≤ length (t' .queue)
   pub source : (heard : ℕ → Bool) → Source (g .rate) heard (x .attempts) (t .stream) → Source (g .rate) heard (r .flood .attempts) (t' .stream)
   pub stands : (heard : ℕ → Bool) → Source (g .rate) heard (x .attempts) (t .stream)
-      → (b₀ : List ℕ) (s : Standing) → Stands (g .nodes) x (t .held) b₀ (t .snapshots) s
-      → Stands (g .nodes) (r .flood) (t' .held) b₀ (t' .snapshots) (round (asSetup g rows heard) limit initiator packet s .after)
+      → (packet : Packet) (b₀ : List ℕ) (s : Standing) → Stands (g .nodes) x b₀ (t .snapshots) s
+      → Stands (g .nodes) (r .flood) b₀ (t' .snapshots) (round (asSetup g rows heard) limit initiator packet s .after)
       × (r .part ≡ round (asSetup g rows heard) limit initiator packet s .part)
-      × (r .covered ≡ round (asSetup g rows heard) limit initiator packet s .covered)

@@ -1,11 +1,6 @@
-// One flood by constructive interference, after the source's phy/ci.rs.
-use super::held::HELD_SIZE;
-use super::held::give;
-use super::held::give_all;
-use super::held::holders;
-use super::packet::PACKET_SIZE;
-use super::packet::Packet;
-use super::packet::numbers;
+// One flood by constructive interference, after the source's phy/ci.rs. It goes the same way whatever its
+// packet says, so no packet is handed in; that the covered nodes are those that took part is a law of the
+// run.
 use super::slot::Flood;
 use super::slot::QUEUE_SIZE;
 use super::slot::Settings;
@@ -16,13 +11,15 @@ use network::graph::full_set;
 use network::units::NodeId;
 use random::draws::STREAM_SIZE;
 ghost use mathlib.Core.Path.{_≡_};
+ghost use mathlib.Core.Bool.{not, _||_};
 ghost use Prim.Native.Nat.{_+_, _≤_, _<_};
-ghost use lib.ListN.{length};
+ghost use lib.Dec.{eqb};
 ghost use Rattle.config.specs.Limits.{wordBits, maxNodes, maxRepeats};
-ghost use Rattle.phy.specs.Limits.{heldSize, queueSize, mostSlots};
+ghost use Rattle.network.specs.Graph.{has, setOf};
+ghost use Rattle.phy.specs.Limits.{queueSize, mostSlots};
 ghost use Rattle.phy.specs.Round.{lengthLimit};
-ghost use Rattle.phy.specs.View.{tables, lent, Sound, Meets, Slotted, placeAfter};
-ghost use Rattle.phy.specs.View.{CanBegin, Begins, Emptied, Delivers, CanFlood, Rounded};
+ghost use Rattle.phy.specs.View.{tables, Sound, Meets, Slotted, placeAfter};
+ghost use Rattle.phy.specs.View.{CanBegin, Begins, Emptied, CanFlood, Rounded};
 
 // How many slots a round has at most.
 pub fn length_limit(round_slots: RoundSlots, diameter: u64, repeats: u64) -> u64
@@ -38,43 +35,30 @@ pub fn length_limit(round_slots: RoundSlots, diameter: u64, repeats: u64) -> u64
     }
 }
 
-// Where a run stands after a round, the set of the nodes that took part, and how many are covered.
+// Where a run stands after a round, and the set of the nodes that took part.
 pub struct Round {
     pub flood: Flood,
     pub part: u64,
-    pub covered: u64,
 }
 
-// After a round: the set of the nodes that took part, how many are covered, and the set of those that
-// hold a packet.
-struct Delivered {
-    part: u64,
-    covered: u64,
-    holding: u64,
-}
-
-// As a round begins, all nodes listen but the initiator, which floods and holds the packet. It stands
-// at the last place of the queue, with all its repeats.
+// As a round begins, all nodes listen but the initiator, which floods. It stands at the last place of the
+// queue, with all its repeats.
 fn begin_round(
     settings: Settings,
     initiator: NodeId,
-    packet: [u64; PACKET_SIZE],
     x: Flood,
     queue: &mut [u64; QUEUE_SIZE],
-    held: &mut [u64; HELD_SIZE],
 ) -> Flood
-    requires { ⌜ CanBegin settings (initiator .0) (now held) ⌝ }
-    ensures { λ r. ⌜ Begins settings (initiator .0) packet x (now (queue .entry)) (now (held .entry)) r (now (queue .exit)) (now (held .exit)) ⌝ }
+    requires { ⌜ CanBegin settings (initiator .0) ⌝ }
+    ensures { λ r. ⌜ Begins settings (initiator .0) x (now (queue .entry)) r (now (queue .exit)) ⌝ }
 {
     let first = initiator.0;
     let own = 1u64 << first;
     let last = settings.repeats as usize - 1;
     queue[last] = own;
-    give(held, initiator, packet);
     let mut y = x;
     y.listening = full_set(settings.nodes) - own;
     y.flooding = own;
-    y.holding = x.holding | own;
     y
 }
 
@@ -98,7 +82,8 @@ fn slots(
     stream: &mut [u32; STREAM_SIZE],
     snapshots: &mut [u64],
 ) -> Flood
-    requires { ⌜ Sound settings flood × (flood .slot .0 + limit < mostSlots) × Meets settings 0 flood (tables (now queue) (now stream) (now snapshots)) ⌝ }
+    requires { ⌜ Sound settings flood × (flood .slot .0 + limit < mostSlots)
+        × Meets settings 0 flood (tables (now queue) (now stream) (now snapshots)) ⌝ }
     ensures { λ r. ⌜ Slotted settings (now (rows .entry)) limit flood
         (tables (now (queue .entry)) (now (stream .entry)) (now (snapshots .entry)))
         r (tables (now (queue .exit)) (now (stream .exit)) (now (snapshots .exit))) ⌝ }
@@ -117,29 +102,13 @@ fn slots(
     x
 }
 
-// Sleeping nodes get the packet; who took part, and how many are covered.
-fn deliver(
-    n: usize,
-    initiator: NodeId,
-    packet: [u64; PACKET_SIZE],
-    awake: u64,
-    before: u64,
-    held: &mut [u64; HELD_SIZE],
-) -> Delivered
-    requires { ⌜ (n ≤ maxNodes) × (initiator .0 < n) × (length (now held) ≡ heldSize) ⌝ }
-    ensures { λ r. ⌜ Delivers n (initiator .0) packet awake before (now (held .entry)) r (now (held .exit)) ⌝ }
+// The nodes that took part: the initiator, and those that are not awake.
+fn participants(n: usize, initiator: NodeId, awake: u64) -> u64
+    requires { ⌜ (n ≤ maxNodes) × (initiator .0 < n) ⌝ }
+    ensures { λ r. ⌜ r ≡ setOf n (λ k. eqb k (initiator .0) || not (has awake k)) ⌝ }
 {
-    let first = initiator.0;
     let all = full_set(n);
-    let asleep = all - (all & awake);
-    let kept = all & before;
-    let same = holders(held, kept & awake, packet);
-    give_all(held, asleep, packet);
-    Delivered {
-        part: asleep | (1u64 << first),
-        covered: u64::count_ones(asleep | same) as u64,
-        holding: asleep | kept,
-    }
+    (all - (all & awake)) | (1u64 << initiator.0)
 }
 
 // The first places of the queue are empty.
@@ -158,28 +127,22 @@ pub fn flood_identical_round(
     rows: &[u64; MAX_NODES],
     limit: u64,
     initiator: NodeId,
-    packet: Packet,
     flood: Flood,
     queue: &mut [u64; QUEUE_SIZE],
     stream: &mut [u32; STREAM_SIZE],
-    held: &mut [u64; HELD_SIZE],
     snapshots: &mut [u64],
 ) -> Round
-    requires { ⌜ CanFlood settings limit (initiator .0) flood (lent (now queue) (now stream) (now held) (now snapshots)) ⌝ }
-    ensures { λ r. ⌜ Rounded settings (now (rows .entry)) limit (initiator .0) packet flood
-        (lent (now (queue .entry)) (now (stream .entry)) (now (held .entry)) (now (snapshots .entry)))
-        r (lent (now (queue .exit)) (now (stream .exit)) (now (held .exit)) (now (snapshots .exit))) ⌝ }
+    requires { ⌜ CanFlood settings limit (initiator .0) flood (tables (now queue) (now stream) (now snapshots)) ⌝ }
+    ensures { λ r. ⌜ Rounded settings (now (rows .entry)) limit (initiator .0) flood
+        (tables (now (queue .entry)) (now (stream .entry)) (now (snapshots .entry)))
+        r (tables (now (queue .exit)) (now (stream .exit)) (now (snapshots .exit))) ⌝ }
 {
-    let key = numbers(packet);
     empty_queue(queue, settings.repeats as usize);
-    let x = begin_round(settings, initiator, key, flood, queue, held);
-    let mut ended = slots(settings, rows, limit, x, queue, stream, snapshots);
+    let x = begin_round(settings, initiator, flood, queue);
+    let ended = slots(settings, rows, limit, x, queue, stream, snapshots);
     let awake = ended.listening | ended.flooding;
-    let done = deliver(settings.nodes, initiator, key, awake, ended.holding, held);
-    ended.holding = done.holding;
     Round {
         flood: ended,
-        part: done.part,
-        covered: done.covered,
+        part: participants(settings.nodes, initiator, awake),
     }
 }

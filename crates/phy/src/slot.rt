@@ -44,13 +44,11 @@ pub struct Tried {
     pub reached: u64,
 }
 
-// Where a run stands in its floods: the sets of the nodes that listen, that flood and that hold a
-// packet, and the slots that all nodes have spent in each state. The packets held stand in a lent
-// table, and so does the stream of the draws.
+// Where a run stands in its floods: the sets of the nodes that listen and that flood, and the slots that
+// all nodes have spent in each state. The stream of the draws stands in a lent table.
 pub struct Flood {
     pub listening: u64,
     pub flooding: u64,
-    pub holding: u64,
     pub slots_listen: u64,
     pub slots_flood: u64,
     pub slots_sleep: u64,
@@ -201,7 +199,6 @@ pub fn slot(
     Flood {
         listening: awake.listening,
         flooding: awake.flooding,
-        holding: x.holding,
         slots_listen: x.slots_listen + seen.listening,
         slots_flood: x.slots_flood + seen.flooding,
         slots_sleep: x.slots_sleep + seen.sleeping,

@@ -44,7 +44,7 @@ pub record After (g : Given) (k : ℕ) (r : Running) : Type 0 where
   pub sleep : sumOf (λ (v : Node). v .«slots_sleep») (r .standing .nodes) (g .nodes) ≡ sum k (λ (i : ℕ). sum (g .nodes) (λ (j : ℕ). farthest g i - distanceIn g i j))
 
 -- an element of a list with one more at its end
-elem-snoc : {A : Type 0} (l : List A) (x : A) (j : ℕ) (p : A) → getElem? (l ++ x ∷ []) j ≡ some p → (getElem? l j ≡ some p) ⊎ ((j ≡ length l) × (x ≡ p))
+pub elem-snoc : {A : Type 0} (l : List A) (x : A) (j : ℕ) (p : A) → getElem? (l ++ x ∷ []) j ≡ some p → (getElem? l j ≡ some p) ⊎ ((j ≡ length l) × (x ≡ p))
 elem-snoc [] x zero p e = inr (refl, cc)
 elem-snoc [] x (suc j) p e = absurd (let z : _≡_ {A = ℕ} 0 1 = cc in omega arith)
 elem-snoc (y ∷ l) x zero p e = inl e

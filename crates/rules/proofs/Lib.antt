@@ -16,6 +16,7 @@
 --     NothingLost  attempts and successes are equal exactly when nothing is lost
 --     Tallies      what the nodes share grows by little in a round
 --     Bounds       bounds on the counts of every accepted run
+--     Coverage     the covered nodes of a round are those that took part
 pub mod FirstNo
 pub mod Rounds
 pub mod Ends
@@ -33,3 +34,4 @@ pub mod ExactRounds
 pub mod NothingLost
 pub mod Tallies
 pub mod Bounds
+pub mod Coverage

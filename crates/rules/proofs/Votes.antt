@@ -106,7 +106,7 @@ starters-lt n t zero = pow-pos 64
 starters-lt n t (suc m) = union-lt (starters n t m) (vote ((t + m) % n))
 
 -- fewer than n apart, they differ
-apart : (n a d : ℕ) → 0 < d → d < n → a % n ≡ (a + d) % n → ⊥
+pub apart : (n a d : ℕ) → 0 < d → d < n → a % n ≡ (a + d) % n → ⊥
 apart n a d h l e = go (a % n) (mod-lt a (omega arith)) (e ∙ sym (mod-add-mod a n d))
   where
     go : (r : ℕ) → r < n → r ≡ (r + d) % n → ⊥

@@ -7,6 +7,7 @@
 --     ExactRounds  demand 3
 --     NothingLost  when a run has lost nothing
 --     Bounds       bounds on the counts of every accepted run
+--     Coverage     the covered nodes of a round are those that took part
 pub mod Run
 pub mod Questions
 pub mod Accepted
@@ -15,3 +16,4 @@ pub mod Answers
 pub mod ExactRounds
 pub mod NothingLost
 pub mod Bounds
+pub mod Coverage

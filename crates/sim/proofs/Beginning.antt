@@ -1,6 +1,6 @@
 -- A run before its first round: every node listens, and nothing is held, logged or recorded. Assumes nothing.
 use Prim.Native.Nat.{ℕ, zero, suc, _+_, _-_, _*_, _^_, _≤_, _<_}
-use mathlib.Core.Path.{_≡_, refl, sym, ap, subst, subst⁻¹, _∙_}
+use mathlib.Core.Path.{_≡_, refl, sym, ap, subst⁻¹, _∙_}
 use mathlib.Core.Bool.{Bool, true, false, cond}
 use mathlib.Core.List.{List, []}
 use mathlib.Core.Logic.{_⊎_, inl, inr}
@@ -18,10 +18,9 @@ use Rattle.random.proofs.Tables.{is-tabulate}
 use Rattle.phy.specs.declared.node.Node.{Node}
 use Rattle.phy.specs.declared.packet.Piggyback.{Piggyback}
 use Rattle.phy.specs.declared.slot.Flood.{Flood}
-use Rattle.phy.specs.Limits.{heldSize}
 use Rattle.phy.specs.Node.{new, total, isListening, isFlooding}
 use Rattle.phy.specs.Slot.{at, Standing}
-use Rattle.phy.specs.View.{Holding, Stands}
+use Rattle.phy.specs.View.{Stands}
 use Rattle.phy.proofs.Masks.{has-zero}
 use Rattle.phy.proofs.Count.{count-none}
 use Rattle.phy.proofs.Snapshots.{recorded-none}
@@ -56,7 +55,6 @@ module _ (n listening : ℕ) (few : n ≤ maxNodes) (all : listening ≡ 2 ^ n -
       record {
         listening = listening;
         flooding = 0;
-        holding = 0;
         «slots_listen» = 0;
         «slots_flood» = 0;
         «slots_sleep» = 0;
@@ -70,14 +68,11 @@ module _ (n listening : ℕ) (few : n ≤ maxNodes) (all : listening ≡ 2 ^ n -
   abbrev newStanding : ℕ → Standing
   newStanding m = record { nodes = replicate m new; attempts = 0; successes = 0; slot = 0; shots = record { next = 0; taken = [] } }
 
-  stands : (b : List ℕ) → Stands n newFlood (replicate heldSize 0) b b (newStanding n)
+  stands : (b : List ℕ) → Stands n newFlood b b (newStanding n)
   stands b =
       record {
         listening = omega (arith, all, pow-pos n, full-set n (λ (j : ℕ). isListening (at (replicate n new) j)) (λ j h. ap isListening (new-at n j h)));
         flooding = sym (empty-set n (λ (j : ℕ). isFlooding (at (replicate n new) j)) (λ j h. ap isFlooding (new-at n j h)));
-        room = length-replicate {A = ℕ} heldSize 0;
-        held = λ j h. subst (λ (v : Node). Holding (replicate heldSize 0) 0 j (v .payload)) (sym (new-at n j h)) (has-zero j);
-        holders = omega arith;
         listens = sym (sum-new (λ (v : Node). v .«slots_listen») n n refl (le-refl n));
         floods = sym (sum-new (λ (v : Node). v .«slots_flood») n n refl (le-refl n));
         sleeps = sym (sum-new (λ (v : Node). v .«slots_sleep») n n refl (le-refl n));
@@ -91,7 +86,7 @@ module _ (n listening : ℕ) (few : n ≤ maxNodes) (all : listening ≡ 2 ^ n -
   pub new-flood : NewFlood n newFlood
   new-flood =
       record {
-        stands = λ g b e. subst⁻¹ (λ (m : ℕ). Stands n newFlood (replicate heldSize 0) b b (newStanding m)) e (stands b);
+        stands = λ g b e. subst⁻¹ (λ (m : ℕ). Stands n newFlood b b (newStanding m)) e (stands b);
         sound = λ g e low high i. record { few = omega (arith, e); repeats = (low, high); interval = i; attempts = omega arith; successes = omega arith; next = sym (zero-mul (g .interval)) };
         first = refl;
         untried = refl;

@@ -1,26 +1,35 @@
 -- One round of the code beside one of the definitions. Assumes nothing.
 use Prim.Native.Nat.{ℕ, _+_, _*_, _%_, _≤_, _<_}
-use mathlib.Core.Path.{_≡_, ap, ap₂, subst, subst⁻¹, _∙_}
+use mathlib.Core.Path.{_≡_, sym, ap, ap₂, subst, subst⁻¹, _∙_}
 use mathlib.Core.List.{List}
 use native.Mathlib.Nat.{mod-lt}
 use native.Mathlib.Omega.{arith}
+use lib.Count.{ones}
 use Rattle.config.specs.Limits.{maxTerms, maxNodes, mostRounds}
+use Rattle.network.specs.Graph.{has, count}
+use Rattle.network.proofs.Sets.{has-setOf}
 use Rattle.phy.specs.declared.ci.Round.{Round}
 use Rattle.phy.specs.declared.slot.Flood.{Flood}
 use Rattle.phy.specs.declared.slot.Settings.{Settings}
-use Rattle.phy.specs.Slot.{Setup}
-use Rattle.phy.specs.Round.{Flooded, lengthLimit, round}
-use Rattle.phy.specs.View.{Lent, Sound, Stands, CanFlood, Rounded, asSetup}
+use Rattle.phy.specs.Round.{Flooded, lengthLimit, participants, round}
+use Rattle.phy.specs.View.{Tables, Sound, Stands, CanFlood, Rounded, asSetup}
+use Rattle.phy.proofs.Nodes.{count-cong, ones-setOf}
 use Rattle.pipeline.specs.declared.carry.Carry.{Carry}
 use Rattle.pipeline.specs.declared.round.PreparedRound.{PreparedRound}
 use Rattle.pipeline.specs.Round.{Prepared, prepareRound, processRound}
 use Rattle.pipeline.specs.View.{sharedOf, MayPrepare, Prepares, MayProcess, Processes}
 use Rattle.rules.specs.Accepted.{Accepted}
-use Rattle.rules.specs.Run.{Given, Running, preparedIn, floodedIn, runRound}
+use Rattle.rules.specs.Run.{Given, Running, setupOf, preparedIn, floodedIn, runRound}
+use Rattle.rules.proofs.Coverage.{covered-part}
 use Rattle.rules.proofs.Rounds.{limit-few, covered-few}
 use Rattle.sim.specs.declared.run.Plan.{Plan}
 use Rattle.sim.specs.declared.run.Run.{Run}
 use Rattle.sim.specs.Going.{planned, settingsOf, Workspace, workspace, lentOf, Shows, Steady, Going, Plays}
+
+-- how many nodes took part, counted in the word
+ones-part : (g : Given) (k : ℕ) (r : Running) → ones (floodedIn g k r .part) ≡ count (g .nodes) (has (floodedIn g k r .part))
+unfolding round participants
+ones-part g k r = ones-setOf (g .nodes) _ ∙ count-cong (g .nodes) _ _ (λ j h. sym (has-setOf (g .nodes) _ j h))
 
 -- what holds between slots does not speak of the progress
 sound-as : (p : Plan) (m q : ℕ) {x : Flood} → Sound (settingsOf p m) x → Sound (settingsOf p q) x
@@ -78,17 +87,17 @@ module _ {graph : List ℕ} {p : Plan} {k : ℕ} {x : Run} {w : Workspace} {b₀
             below = pr .below;
           }
 
-      module _ {y : Settings} {limit : ℕ} {flooded : Round} {l : Lent} {carry : Carry} {b' t' : List ℕ} (q : y ≡ settingsOf p (x .progress)) (e : limit ≡ longest)
-          (fl₀ : Rounded y graph limit (k % p .nodes) (prepared .packet) (x .flood) (lentOf w) flooded l)
+      module _ {y : Settings} {limit : ℕ} {flooded : Round} {l : Tables} {carry : Carry} {b' t' : List ℕ} (q : y ≡ settingsOf p (x .progress)) (e : limit ≡ longest)
+          (fl₀ : Rounded y graph limit (k % p .nodes) (x .flood) (lentOf w) flooded l)
           (pc : Processes (p .nodes) (prepared .packet) (flooded .flood .slot) (flooded .part) (prepared .carry) b t carry b' t') where
-        fl : Rounded (settingsOf p (x .progress)) graph limit (k % p .nodes) (prepared .packet) (x .flood) (lentOf w) flooded l
-        fl = subst (λ (z : Settings). Rounded z graph limit (k % p .nodes) (prepared .packet) (x .flood) (lentOf w) flooded l) q fl₀
+        fl : Rounded (settingsOf p (x .progress)) graph limit (k % p .nodes) (x .flood) (lentOf w) flooded l
+        fl = subst (λ (z : Settings). Rounded z graph limit (k % p .nodes) (x .flood) (lentOf w) flooded l) q fl₀
 
         abbrev after : Run
-        after = record { flood = flooded .flood; carry = carry; covered = x .covered + flooded .covered; progress = x .progress }
+        after = record { flood = flooded .flood; carry = carry; covered = x .covered + ones (flooded .part); progress = x .progress }
 
         abbrev then : Workspace
-        then = workspace (l .queue) (l .stream) (l .held) b' t' (l .snapshots)
+        then = workspace (l .queue) (l .stream) b' t' (l .snapshots)
 
         -- beside the round of the definitions
         module _ {b₁ : List ℕ} {s : Running} (g : Going graph p k x w b₁ s) where
@@ -110,32 +119,31 @@ module _ {graph : List ℕ} {p : Plan} {k : ℕ} {x : Run} {w : Workspace} {b₀
               (record { rows = graph; nodes = p .nodes; repeats = p .config .«flood_repeats»; interval = p .config .«snapshot_interval»; progress = g .progress j; heard = given .heard })
               (e j) (k % p .nodes) (packet-is j) (s .standing)
 
-          stood : Stands (p .nodes) (flooded .flood) (l .held) b₁ (l .snapshots) (here .after) × (flooded .part ≡ here .part) × (flooded .covered ≡ here .covered)
-          stood = fl .stands (given .heard) (g .steady .source) b₁ (s .standing) (g .shows .standing)
+          stood : Stands (p .nodes) (flooded .flood) b₁ (l .snapshots) (here .after) × (flooded .part ≡ here .part)
+          stood = fl .stands (given .heard) (g .steady .source) (prepared .packet) b₁ (s .standing) (g .shows .standing)
 
           part-is : flooded .part ≡ floodedIn given k s .part
           part-is = _∙_ {b = here .part} (stood .1) (ap (λ (f : Flooded). f .part) flood-is)
 
+          -- the nodes that took part are counted, and they are the covered ones
+          covered-is : ones (flooded .part) ≡ floodedIn given k s .covered
+          covered-is = ap ones part-is ∙ ones-part given k s ∙ sym (covered-part given k s (g .held))
+
           shows : Shows p after then b₁ (runRound given k s)
           unfolding runRound
           shows =
-              let standing : Stands (p .nodes) (flooded .flood) (l .held) b₁ (l .snapshots) (floodedIn given k s .after)
-              = subst (λ (f : Flooded). Stands (p .nodes) (flooded .flood) (l .held) b₁ (l .snapshots) (f .after)) flood-is (stood .0) in
+              let standing : Stands (p .nodes) (flooded .flood) b₁ (l .snapshots) (floodedIn given k s .after)
+              = subst (λ (f : Flooded). Stands (p .nodes) (flooded .flood) b₁ (l .snapshots) (f .after)) flood-is (stood .0) in
               let before : sharedOf (p .nodes) (prepared .carry) b t ≡ preparedIn given k s .shared
               = _∙_ {b = mine .shared} (pr .shared) (ap (λ (q : Prepared). q .shared) same) in
               record {
                 standing = standing;
                 shared = pc .shared ∙ (λ j. processRound (p .nodes) (packet-is j) (standing .slot j) (part-is j) (before j));
-                covered = ap₂ _+_ (g .shows .covered) (_∙_ {b = here .covered} (stood .2) (ap (λ (f : Flooded). f .covered) flood-is));
+                covered = ap₂ _+_ (g .shows .covered) covered-is;
               }
 
-        covered-most : flooded .covered ≤ maxNodes
-        covered-most =
-            let setup : Setup = asSetup (settingsOf p (x .progress)) graph (given .heard) in
-            omega (arith, stood g₀ .2, covered-few setup limit (k % p .nodes) (prepared .packet) (s₀ .standing), ok .few)
-
-        pub covered-fits : x .covered + flooded .covered ≤ maxNodes * (k + 1)
-        covered-fits = omega (arith, covered-most, g₀ .steady .covered)
+        pub covered-fits : x .covered + ones (flooded .part) ≤ maxNodes * (k + 1)
+        covered-fits = omega (arith, covered-is g₀, covered-few (setupOf given (s₀ .shared)) longest (k % p .nodes) (preparedIn given k s₀ .packet) (s₀ .standing), ok .few, g₀ .steady .covered)
 
         steady : Steady (given .heard) p (k + 1) after then
         steady =

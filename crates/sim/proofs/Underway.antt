@@ -13,13 +13,13 @@ use Rattle.config.specs.Limits.{maxTerms, extraRounds}
 use Rattle.random.specs.Reception.{Source}
 use Rattle.random.proofs.Stream.{source-begins}
 use Rattle.random.proofs.Tables.{length-tabulate}
-use Rattle.phy.specs.View.{Stands}
 use Rattle.phy.proofs.Snapshots.{length-with}
 use Rattle.protocol.specs.Paxos.{State}
 use Rattle.protocol.proofs.Kept.{kept-mono}
 use Rattle.pipeline.specs.Round.{Shared, shortestLog}
 use Rattle.pipeline.specs.View.{AllKept, Sharing, tableSize, statesOf, recordsOf, recordAt, sharedOf}
 use Rattle.rules.specs.Run.{Given, Running, Ended, begin, runRound, complete, endAfter, roundsFrom, runFor}
+use Rattle.rules.proofs.Coverage.{held-begin, held-round}
 use Rattle.rules.proofs.Ends.{from-limit, from-next, from-end, shortest-new}
 use Rattle.rules.proofs.Rounds.{rounds-more}
 use Rattle.sim.specs.declared.run.Plan.{Plan}
@@ -83,7 +83,7 @@ underway-new graph p most x w can new =
       here = begin g;
       going = record {
         shows = record {
-          standing = subst⁻¹ (λ (h : List ℕ). Stands (p .nodes) (x .flood) h (w .snapshots) (w .snapshots) (begin g .standing)) (can .none-held) (new .flood .stands g (w .snapshots) refl);
+          standing = new .flood .stands g (w .snapshots) refl;
           shared = (λ i. sharedOf (p .nodes) (x .carry) (can .begins .no-state i) (can .begins .no-history i)) ∙ new .shared g refl;
           covered = new .covered;
         };
@@ -100,6 +100,7 @@ underway-new graph p most x w can new =
           piggybacks = omega (arith, new .piggybacks);
         };
         rounds = refl;
+        held = held-begin g;
         progress = new .progress ∙ sym (shortest-new (p .nodes));
       };
       rest = ap (λ (m : ℕ). roundsFrom g m 0 (begin g)) all;
@@ -179,6 +180,7 @@ module _ {graph : List ℕ} {p : Plan} {most : ℕ} {b₀ : List ℕ} where
                 shows = shows-as shown;
                 steady = steady-as (pl .steady);
                 rounds = rounds;
+                held = held-round (planned graph p) k (u .here) (u .going .held);
                 progress = seen .shortest ∙ ap (λ (y : List State). shortestLog y (p .nodes)) (states-are shown);
               };
               rest =

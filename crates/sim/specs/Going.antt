@@ -9,12 +9,12 @@ use Rattle.random.specs.Draws.{Before}
 use Rattle.random.specs.Reception.{Source}
 use Rattle.phy.specs.declared.slot.Settings.{Settings}
 use Rattle.phy.specs.declared.slot.Flood.{Flood}
-use Rattle.phy.specs.Limits.{heldSize}
-use Rattle.phy.specs.View.{Lent, lent, Sound, Stands}
+use Rattle.phy.specs.View.{Tables, tables, Sound, Stands}
 use Rattle.pipeline.specs.Round.{shortestLog}
 use Rattle.pipeline.specs.View.{AllKept, statesOf, Sharing, sharedOf, tableSize, historySize}
 use Rattle.metrics.specs.declared.summary.Summary.{Summary}
 use Rattle.rules.specs.Accepted.{Accepted}
+use Rattle.rules.specs.Coverage.{HeldPackets}
 use Rattle.rules.specs.Entries.{givenAs}
 use Rattle.rules.specs.Run.{Given, Running, begin, complete, preparedIn, floodedIn, runRound, roundsFrom, runFor}
 use Rattle.sim.specs.declared.run.Plan.{Plan}
@@ -38,29 +38,28 @@ settingsOf p progress =
       rate = p .config .«loss_rate»;
     }
 
--- What the lent slices hold: the queue of the flooding nodes, the stream of the draws, the packets held, the Paxos states, the history of
--- the proposals, and the snapshots.
+-- What the lent slices hold: the queue of the flooding nodes, the stream of the draws, the Paxos states, the history of the proposals, and
+-- the snapshots.
 pub record Workspace : Type 0 where
   pub queue : List ℕ
   pub stream : List ℕ
-  pub held : List ℕ
   pub states : List ℕ
   pub history : List ℕ
   pub snapshots : List ℕ
 
-abbrev pub workspace : List ℕ → List ℕ → List ℕ → List ℕ → List ℕ → List ℕ → Workspace
-workspace queue stream held states history snapshots =
-    record { queue = queue; stream = stream; held = held; states = states; history = history; snapshots = snapshots }
+abbrev pub workspace : List ℕ → List ℕ → List ℕ → List ℕ → List ℕ → Workspace
+workspace queue stream states history snapshots =
+    record { queue = queue; stream = stream; states = states; history = history; snapshots = snapshots }
 
 -- what of it a flood is lent
-abbrev pub lentOf : Workspace → Lent
-lentOf w = lent (w .queue) (w .stream) (w .held) (w .snapshots)
+abbrev pub lentOf : Workspace → Tables
+lentOf w = tables (w .queue) (w .stream) (w .snapshots)
 
 -- ---- between rounds
 
 -- The code at x with the workspace w shows where the run of the definitions stands. As the run began the snapshots' buffer was b₀.
 pub record Shows (p : Plan) (x : Run) (w : Workspace) (b₀ : List ℕ) (s : Running) : Type 0 where
-  pub standing : Stands (p .nodes) (x .flood) (w .held) b₀ (w .snapshots) (s .standing)
+  pub standing : Stands (p .nodes) (x .flood) b₀ (w .snapshots) (s .standing)
   pub shared : sharedOf (p .nodes) (x .carry) (w .states) (w .history) ≡ s .shared
   pub covered : x .covered ≡ s .covered
 
@@ -75,11 +74,13 @@ pub record Steady (heard : ℕ → Bool) (p : Plan) (k : ℕ) (x : Run) (w : Wor
   pub nacks : x .carry .nacks ≤ k
   pub piggybacks : x .carry .piggybacks ≤ maxNodes * k
 
--- After k rounds the code stands at x and the run of the definitions at s; snapshots show the progress.
+-- After k rounds the code stands at x and the run of the definitions at s; snapshots show the progress. The packets that nodes hold stand
+-- in the definitions alone.
 pub record Going (graph : List ℕ) (p : Plan) (k : ℕ) (x : Run) (w : Workspace) (b₀ : List ℕ) (s : Running) : Type 0 where
   pub shows : Shows p x w b₀ s
   pub steady : Steady (planned graph p .heard) p k x w
   pub rounds : length (s .rounds) ≡ k
+  pub held : HeldPackets (p .nodes) k (s .standing .nodes)
   pub progress : x .progress ≡ shortestLog (s .shared .states) (p .nodes)
 
 -- ---- one round
@@ -126,7 +127,6 @@ pub record CanStart (graph : List ℕ) (p : Plan) (most : ℕ) (states history :
 pub record CanGo (graph : List ℕ) (p : Plan) (most : ℕ) (w : Workspace) : Type 0 where
   pub begins : CanStart graph p most (w .states) (w .history)
   pub stream : Before (p .config .seed) 0 (w .stream)
-  pub none-held : w .held ≡ replicate heldSize 0
   pub room : p .config .«flood_repeats» ≤ length (w .queue)
 
 -- Of a run that may take `most` rounds, k are played.
@@ -148,14 +148,13 @@ pub record Goes (graph : List ℕ) (p : Plan) (most : ℕ) (r : Stopped) (b₀ :
 pub record Stops (graph : List ℕ) (p : Plan) (most : ℕ) (r : Stopped) (b₀ states history snapshots : List ℕ) : Type 0 where
   pub queue : List ℕ
   pub stream : List ℕ
-  pub held : List ℕ
-  pub goes : Goes graph p most r b₀ (workspace queue stream held states history snapshots)
+  pub goes : Goes graph p most r b₀ (workspace queue stream states history snapshots)
 
 -- ---- before the first round
 
 -- a flood before the first round
 pub record NewFlood (n : ℕ) (x : Flood) : Type 0 where
-  pub stands : (g : Given) (b : List ℕ) → g .nodes ≡ n → Stands n x (replicate heldSize 0) b b (begin g .standing)
+  pub stands : (g : Given) (b : List ℕ) → g .nodes ≡ n → Stands n x b b (begin g .standing)
   pub sound : (g : Settings) → g .nodes ≡ n → 1 ≤ g .repeats → g .repeats ≤ maxRepeats → 1 ≤ g .interval → Sound g x
   pub first : x .slot .0 ≡ 0
   pub untried : x .attempts ≡ 0

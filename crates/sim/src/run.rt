@@ -8,7 +8,6 @@ use network::units::NodeId;
 use network::units::Slot;
 use phy::ci::flood_identical_round;
 use phy::ci::length_limit;
-use phy::held::HELD_SIZE;
 use phy::packet::Packet;
 use phy::packet::Piggyback;
 use phy::slot::Flood;
@@ -65,7 +64,6 @@ fn new_flood(n: usize) -> Flood
     Flood {
         listening: full_set(n),
         flooding: 0,
-        holding: 0,
         slots_listen: 0,
         slots_flood: 0,
         slots_sleep: 0,
@@ -112,7 +110,7 @@ fn settings_of(plan: Plan, progress: u64) -> Settings
     }
 }
 
-// Round k: prepare, flood, process.
+// Round k: prepare, flood, process. The covered nodes are those that took part.
 fn run_round(
     graph: &[u64; MAX_NODES],
     plan: Plan,
@@ -120,15 +118,14 @@ fn run_round(
     x: Run,
     queue: &mut [u64; QUEUE_SIZE],
     stream: &mut [u32; STREAM_SIZE],
-    held: &mut [u64; HELD_SIZE],
     states: &mut [u64],
     history: &mut [u64; HISTORY_SIZE],
     snapshots: &mut [u64],
 ) -> Played
-    requires { ⌜ CanPlay (now graph) plan k x (workspace (now queue) (now stream) (now held) (now states) (now history) (now snapshots)) ⌝ }
+    requires { ⌜ CanPlay (now graph) plan k x (workspace (now queue) (now stream) (now states) (now history) (now snapshots)) ⌝ }
     ensures { λ r. ⌜ Plays (now (graph .entry)) plan k x
-        (workspace (now (queue .entry)) (now (stream .entry)) (now (held .entry)) (now (states .entry)) (now (history .entry)) (now (snapshots .entry)))
-        r (workspace (now (queue .exit)) (now (stream .exit)) (now (held .exit)) (now (states .exit)) (now (history .exit)) (now (snapshots .exit))) ⌝ }
+        (workspace (now (queue .entry)) (now (stream .entry)) (now (states .entry)) (now (history .entry)) (now (snapshots .entry)))
+        r (workspace (now (queue .exit)) (now (stream .exit)) (now (states .exit)) (now (history .exit)) (now (snapshots .exit))) ⌝ }
 {
     let n = plan.nodes;
     let config = plan.config;
@@ -147,28 +144,23 @@ fn run_round(
         graph,
         limit,
         initiator,
-        packet,
         flood,
         queue,
         stream,
-        held,
         snapshots,
     );
     let after = round.flood;
+    let part = round.part;
     let free = after.slot;
     let between = prepared.carry;
-    let carry = process_round(between, states, history, n, packet, free, round.part);
+    let carry = process_round(between, states, history, n, packet, free, part);
     let run = Run {
         flood: after,
         carry,
-        covered: x.covered + round.covered,
+        covered: x.covered + u64::count_ones(part) as u64,
         progress: x.progress,
     };
-    Played {
-        run,
-        packet,
-        part: round.part,
-    }
+    Played { run, packet, part }
 }
 
 // The end after round k, or 0.
@@ -194,14 +186,13 @@ fn play_rounds(
     most: u64,
     queue: &mut [u64; QUEUE_SIZE],
     stream: &mut [u32; STREAM_SIZE],
-    held: &mut [u64; HELD_SIZE],
     states: &mut [u64],
     history: &mut [u64; HISTORY_SIZE],
     snapshots: &mut [u64],
 ) -> Stopped
-    requires { ⌜ CanGo (now graph) plan most (workspace (now queue) (now stream) (now held) (now states) (now history) (now snapshots)) ⌝ }
+    requires { ⌜ CanGo (now graph) plan most (workspace (now queue) (now stream) (now states) (now history) (now snapshots)) ⌝ }
     ensures { λ r. ⌜ Goes (now (graph .entry)) plan most r (now (snapshots .entry))
-        (workspace (now (queue .exit)) (now (stream .exit)) (now (held .exit)) (now (states .exit)) (now (history .exit)) (now (snapshots .exit))) ⌝ }
+        (workspace (now (queue .exit)) (now (stream .exit)) (now (states .exit)) (now (history .exit)) (now (snapshots .exit))) ⌝ }
 {
     let config = plan.config;
     let proposals = config.num_proposals;
@@ -215,18 +206,7 @@ fn play_rounds(
                 ended: 4,
             };
         }
-        let played = run_round(
-            graph,
-            plan,
-            k,
-            x,
-            queue,
-            stream,
-            held,
-            states,
-            history,
-            snapshots,
-        );
+        let played = run_round(graph, plan, k, x, queue, stream, states, history, snapshots);
         x = played.run;
         let seen = survey(states, plan.nodes, proposals as usize);
         x.progress = seen.shortest;
@@ -262,14 +242,12 @@ pub fn play(
 {
     let mut queue = [0u64; QUEUE_SIZE];
     let mut stream = begin_draws(plan.config.seed);
-    let mut held = [0u64; HELD_SIZE];
     play_rounds(
         graph,
         plan,
         most,
         &mut queue,
         &mut stream,
-        &mut held,
         states,
         history,
         snapshots,

@@ -7,7 +7,6 @@ use lib.ListN.{set}
 use lib.Pow.{pow-lt}
 use Rattle.config.specs.Limits.{wordBits}
 use Rattle.network.proofs.Sets.{one-shl}
-use Rattle.phy.proofs.Masks.{or-shifted-bit}
 use Rattle.phy.proofs.ci.begin_round.Statement.{statement}
 use Rattle.phy.proofs.ci.begin_round.Tie as tie
 
@@ -26,33 +25,28 @@ mul-queue c = search needs
 element-write-queue : tie.Need-element-write-queue
 element-write-queue c = search needs
 
-give-requires : tie.Need-give-requires
-give-requires c κs = search needs
-
 full-set-requires : tie.Need-full-set-requires
 full-set-requires c κs = search needs
 
 sub-y : tie.Need-sub-y
 sub-y c =
-    let start = c .before .before .before .before in
+    let start = c .before .before in
     let first = start .args .initiator .0 in
     subst⁻¹ (λ (own : ℕ). own ≤ c .full-set .result) (one-shl wordBits first (omega (arith, start .pre .few, start .pre .node))) (omega (arith, c .full-set .ensures, pow-lt (start .pre .node)))
 
 returns : tie.Need-returns
 returns c =
-    let start = c .before .before .before .before .before in
+    let start = c .before .before in
     let x = start .args .x in
     let first = start .args .initiator .0 in
     let small : first < wordBits = omega (arith, start .pre .few, start .pre .node) in
     let own = one-shl wordBits first small in
-    let whole = c .before .full-set .ensures in
-    let held = or-shifted-bit wordBits {s = x .holding} {j = first} (omega arith) small in
+    let whole = c .full-set .ensures in
     record {
       flood = λ i.
           record {
             listening = whole i - own i;
             flooding = own i;
-            holding = held i;
             «slots_listen» = x .«slots_listen»;
             «slots_flood» = x .«slots_flood»;
             «slots_sleep» = x .«slots_sleep»;
@@ -63,7 +57,6 @@ returns c =
             snapshots = x .snapshots;
           };
       queue = ap (set (now (start .args .queue)) (start .args .settings .repeats - 1)) own;
-      held = c .before .before .give .ensures;
     }
 
 pub begin-round-spec : {M : Type 1} → statement M
@@ -75,7 +68,6 @@ begin-round-spec =
     sub-last
     mul-queue
     element-write-queue
-    give-requires
     full-set-requires
     sub-y
     returns)

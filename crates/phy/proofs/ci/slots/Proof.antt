@@ -22,8 +22,8 @@ record Onward (g : Settings) (rows : List ℕ) (limit : ℕ) (x₀ : Flood) (t�
   size : length (t .snapshots) ≡ length (t₀ .snapshots)
   met : Meets g place x t
   source : (heard : ℕ → Bool) → Source (g .rate) heard (x₀ .attempts) (t₀ .stream) → Source (g .rate) heard (x .attempts) (t .stream)
-  here : (heard : ℕ → Bool) → Source (g .rate) heard (x₀ .attempts) (t₀ .stream) → (h b₀ : List ℕ) (s₀ : Standing) → InSlot g 0 x₀ t₀ h b₀ s₀
-      → (s : Standing) × InSlot g place x t h b₀ s × (slots (asSetup g rows heard) more s ≡ slots (asSetup g rows heard) limit s₀)
+  here : (heard : ℕ → Bool) → Source (g .rate) heard (x₀ .attempts) (t₀ .stream) → (b₀ : List ℕ) (s₀ : Standing) → InSlot g 0 x₀ t₀ b₀ s₀
+      → (s : Standing) × InSlot g place x t b₀ s × (slots (asSetup g rows heard) more s ≡ slots (asSetup g rows heard) limit s₀)
 
 -- one slot more
 module _ {g : Settings} {rows : List ℕ} {limit : ℕ} {x₀ : Flood} {t₀ : Tables} {x : Flood} {t : Tables} {more place : ℕ} {r : Flood} {t' : Tables}
@@ -37,10 +37,9 @@ module _ {g : Settings} {rows : List ℕ} {limit : ℕ} {x₀ : Flood} {t₀ : T
       record {
         heard = met .heard;
         source = stepped .source (met .heard) (met .source);
-        packets = met .packets;
         first = met .first;
         standing = slotStep (asSetup g rows (met .heard)) (met .standing);
-        here = stepped .stands (met .heard) (met .source) (met .packets) (met .first) (met .standing) (met .here);
+        here = stepped .stands (met .heard) (met .source) (met .first) (met .standing) (met .here);
       }
 
   onward : (r .flooding ≡ 0 → ⊥) → length (t' .snapshots) ≡ length (t .snapshots) → {p : ℕ} → p ≡ placeAfter (g .repeats) place 1 → Onward g rows limit x₀ t₀ r t' (more - 1) p
@@ -52,10 +51,10 @@ module _ {g : Settings} {rows : List ℕ} {limit : ℕ} {x₀ : Flood} {t₀ : T
         size = same ∙ o .size;
         met = met-next;
         source = λ heard s. stepped .source heard (o .source heard s);
-        here = λ heard source h b₀ s₀ here₀.
+        here = λ heard source b₀ s₀ here₀.
             let setup = asSetup g rows heard in
-            let old = o .here heard source h b₀ s₀ here₀ in
-            let new = stepped .stands heard (o .source heard source) h b₀ (old .0) (old .1) in
+            let old = o .here heard source b₀ s₀ here₀ in
+            let new = stepped .stands heard (o .source heard source) b₀ (old .0) (old .1) in
             let goes = somebody (g .nodes) (slotStep setup (old .0) .nodes) (r .flooding) (new .stands .flooding) floods in
             (slotStep setup (old .0), new, sym (slots-more setup (more - 1) (old .0) goes) ∙ ap (λ (k : ℕ). slots setup k (old .0)) (sym one) ∙ old .2);
       })
@@ -67,12 +66,12 @@ module _ {g : Settings} {rows : List ℕ} {limit : ℕ} {x₀ : Flood} {t₀ : T
         slots = omega (arith, stepped .slots, o .slots-left, some);
         room = met-next .here .queued .room;
         source = λ heard s. stepped .source heard (o .source heard s);
-        stands = λ heard source h b₀ s₀ here₀.
+        stands = λ heard source b₀ s₀ here₀.
             let setup = asSetup g rows heard in
-            let old = o .here heard source h b₀ s₀ here₀ in
-            let new = stepped .stands heard (o .source heard source) h b₀ (old .0) (old .1) .stands in
+            let old = o .here heard source b₀ s₀ here₀ in
+            let new = stepped .stands heard (o .source heard source) b₀ (old .0) (old .1) .stands in
             let last = nobody (g .nodes) (slotStep setup (old .0) .nodes) (r .flooding) (new .flooding) quiet in
-            subst (Stands (g .nodes) r h b₀ (t' .snapshots)) (sym (slots-last setup (more - 1) (old .0) last) ∙ ap (λ (k : ℕ). slots setup k (old .0)) (sym one) ∙ old .2) new;
+            subst (Stands (g .nodes) r b₀ (t' .snapshots)) (sym (slots-last setup (more - 1) (old .0) last) ∙ ap (λ (k : ℕ). slots setup k (old .0)) (sym one) ∙ old .2) new;
       }
 
 abbrev Inv-loop : tie.InvT-loop
@@ -85,7 +84,7 @@ abbrev μ-loop : tie.MeasureT-loop
 loop-holds : tie.Need-loop-holds Inv-loop μ-loop
 loop-holds c =
     let pre = c .before .pre in
-    record { sound = pre .0; slots-left = omega arith; size = refl; met = pre .2; source = λ heard s. s; here = λ heard source h b₀ s here. (s, here, refl) }
+    record { sound = pre .0; slots-left = omega arith; size = refl; met = pre .2; source = λ heard s. s; here = λ heard source b₀ s here. (s, here, refl) }
 
 slot-requires : tie.Need-slot-requires Inv-loop μ-loop
 slot-requires c κs =
@@ -134,9 +133,9 @@ returns-2 c =
       slots = omega (arith, l .inv .slots-left);
       room = l .inv .met .here .queued .room;
       source = l .inv .source;
-      stands = λ heard source h b₀ s₀ here₀.
-          let old = l .inv .here heard source h b₀ s₀ here₀ in
-          subst (Stands (a .settings .nodes) (l .x) h b₀ (l .snapshots)) (ap (λ (k : ℕ). slots (asSetup (a .settings) (now (a .rows)) heard) k (old .0)) (sym none) ∙ old .2) (old .1 .stands);
+      stands = λ heard source b₀ s₀ here₀.
+          let old = l .inv .here heard source b₀ s₀ here₀ in
+          subst (Stands (a .settings .nodes) (l .x) b₀ (l .snapshots)) (ap (λ (k : ℕ). slots (asSetup (a .settings) (now (a .rows)) heard) k (old .0)) (sym none) ∙ old .2) (old .1 .stands);
     }
 
 pub slots-spec : {M : Type 1} → statement M

@@ -89,8 +89,8 @@ returns c =
       };
       slots = refl;
       source = tried .ensures .source;
-      stands = λ heard source h b₀ s here.
-          slot-stands (a .settings) (now (a .rows)) heard (a .place) (a .x) (tables (now (a .queue)) (now (a .stream)) (now (a .snapshots))) h b₀ s here (seen .result) (seen .ensures)
+      stands = λ heard source b₀ s here.
+          slot-stands (a .settings) (now (a .rows)) heard (a .place) (a .x) (tables (now (a .queue)) (now (a .stream)) (now (a .snapshots))) b₀ s here (seen .result) (seen .ensures)
           (taken .result) _ (taken .ensures) (tried .result) (tried .ensures .tried heard source) (adv .result) _ (adv .ensures) _;
     }
 

@@ -1,13 +1,13 @@
 -- `protocol::paxos::others_voted` meets its contract. The invariant: `other` is 0 exactly when the terms passed have the own vote alone.
 -- Assumes nothing.
-use Prim.Native.Nat.{ℕ, suc, _-_, _≤_}
-use mathlib.Core.Bool.{Bool, true, not, _&&_, _||_}
+use Prim.Native.Nat.{ℕ, _-_, _≤_}
+use mathlib.Core.Bool.{Bool, not, _&&_, _||_}
 use mathlib.Core.List.{List}
-use mathlib.Core.Path.{_≡_, refl, sym, ap, ap₂, _∙_}
+use mathlib.Core.Path.{_≡_, sym, ap, ap₂, _∙_}
 use native.Mathlib.Numerals.{add-one}
 use native.Mathlib.Omega.{arith}
 use borrow.Author.Tests.{eqb-true, eq-eqb, lt-ltb, le-ltb}
-use lib.Bits.{bitOr, bitXor, bitAnd, or-zero-l, xor-self, or-add-and, xor-add-and, and-le-l, and-le-r}
+use lib.Bits.{bitOr, bitXor, or-zero-l, xor-self, or-add-and, xor-add-and, and-le-l, and-le-r}
 use lib.Dec.{eqb, ltb}
 use Rattle.network.specs.Graph.{all}
 use Rattle.network.proofs.Sets.{and-both, same, all-intro}

@@ -9,11 +9,11 @@ use Rattle.sim.proofs.run.play_rounds.Statement.{statement}
 use Rattle.sim.proofs.run.play_rounds.Tie as tie
 
 abbrev Inv-loop : tie.InvT-loop
-Inv-loop graph plan most queue₀ stream₀ held₀ states₀ history₀ snapshots₀ config proposals x₀ k₀ queue stream held states history snapshots x k =
-    Underway graph plan most k x (workspace queue stream held states history snapshots) snapshots₀
+Inv-loop graph plan most queue₀ stream₀ states₀ history₀ snapshots₀ config proposals x₀ k₀ queue stream states history snapshots x k =
+    Underway graph plan most k x (workspace queue stream states history snapshots) snapshots₀
 
 abbrev μ-loop : tie.MeasureT-loop
-μ-loop graph plan most queue₀ stream₀ held₀ states₀ history₀ snapshots₀ config proposals x₀ k₀ queue stream held states history snapshots x k = most - k
+μ-loop graph plan most queue₀ stream₀ states₀ history₀ snapshots₀ config proposals x₀ k₀ queue stream states history snapshots x k = most - k
 
 -- the places of the loop, of the test of the limit and of the round
 abbrev start : tie.At-loop Inv-loop μ-loop → tie.Start Inv-loop μ-loop
@@ -23,7 +23,7 @@ abbrev looped : tie.Else1 Inv-loop μ-loop → tie.At-loop Inv-loop μ-loop
 looped c = c .before .before .before .before
 
 abbrev limited : tie.After-run-round Inv-loop μ-loop → tie.Else1 Inv-loop μ-loop
-limited c = c .before .before .before .before .before .before .before
+limited c = c .before .before .before .before .before .before
 
 abbrev played : tie.After-end-after Inv-loop μ-loop → tie.After-run-round Inv-loop μ-loop
 played c = c .before .before .before .before .before .before .before .before
@@ -36,7 +36,7 @@ loop-holds c =
     let s = c .before .before .before .before in
     let a = s .args in
     underway-new (now (a .graph)) (a .plan) (a .most) (c .new-run .result)
-    (workspace (now (a .queue)) (now (a .stream)) (now (a .held)) (now (a .states)) (now (a .history)) (now (a .snapshots))) (s .pre) (c .new-run .ensures)
+    (workspace (now (a .queue)) (now (a .stream)) (now (a .states)) (now (a .history)) (now (a .snapshots))) (s .pre) (c .new-run .ensures)
 
 -- the table of states is as long as it was
 states-size : (c : tie.At-loop Inv-loop μ-loop) → length (c .loop .states) ≡ length (now (start c .args .states))
@@ -54,12 +54,12 @@ returns c = at-limit (c .before .before .before .before .loop .inv) (c .before .
 
 run-round-requires : tie.Need-run-round-requires Inv-loop μ-loop
 run-round-requires c κs =
-    let l = looped (c .before .before .before .before .before .before) in
+    let l = looped (c .before .before .before .before .before) in
     let pre = start l .pre in
     let u = l .loop .inv in
     record {
       accepted = pre .begins .accepted;
-      early = omega (arith, c .before .before .before .before .before .before .before .before .before .loop-test .taken, pre .begins .few);
+      early = omega (arith, c .before .before .before .before .before .before .before .before .loop-test .taken, pre .begins .few);
       first = _;
       here = u .here;
       going = u .going;

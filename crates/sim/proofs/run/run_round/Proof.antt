@@ -1,6 +1,9 @@
+use Prim.Native.Nat.{_+_, _*_, _≤_}
 use mathlib.Core.Path.{sym, _∙_}
 use borrow.Author.Needs.{needs}
 use native.Mathlib.Omega.{arith}
+use lib.Count.{ones}
+use Rattle.config.specs.Limits.{maxNodes}
 use Rattle.sim.proofs.Rounds.{may-prepare, can-flood, may-process, covered-fits, round-plays}
 use Rattle.sim.proofs.run.run_round.Statement.{statement}
 use Rattle.sim.proofs.run.run_round.Tie as tie
@@ -10,16 +13,16 @@ abbrev start : tie.After-prepare-round → tie.Start
 start c = c .before .before .before .before .before .before .before .before .before
 
 abbrev prepared : tie.After-flood-identical-round → tie.After-prepare-round
-prepared c = c .before .before .before .before .before .before .before .before .before .before
+prepared c = c .before .before .before .before .before .before .before .before .before
 
 abbrev limited : tie.After-flood-identical-round → tie.After-settings-of
-limited c = c .before .before .before .before .before
+limited c = c .before .before .before .before
 
 abbrev flooded : tie.After-process-round → tie.After-flood-identical-round
 flooded c = c .before .before .before .before .before .before .before .before
 
-abbrev processed : tie.After-struct-known2 → tie.After-process-round
-processed c = c .before .before .before .before
+abbrev processed : tie.After-struct-known → tie.After-process-round
+processed c = c .before .before .before
 
 rem-t30 : tie.Need-rem-t30
 rem-t30 c = search needs
@@ -35,8 +38,8 @@ settings-of-requires c κs = search needs
 
 flood-identical-round-requires : tie.Need-flood-identical-round-requires
 flood-identical-round-requires c κs =
-    let pre = start (c .before .before .before .before .before .before .before .before .before) .pre in
-    can-flood (pre .accepted) (pre .early) (pre .going) (c .before .before .before .before .settings-of .ensures) (c .before .before .before .before .before .length-limit .ensures)
+    let pre = start (c .before .before .before .before .before .before .before .before) .pre in
+    can-flood (pre .accepted) (pre .early) (pre .going) (c .before .before .before .settings-of .ensures) (c .before .before .before .before .length-limit .ensures)
 
 process-round-requires : tie.Need-process-round-requires
 process-round-requires c κs =
@@ -44,12 +47,19 @@ process-round-requires c κs =
     let pre = start at .pre in
     may-process (pre .accepted) (pre .early) (pre .going) (at .prepare-round .ensures)
 
-add-t30 : tie.Need-add-t30
-add-t30 c =
-    let done = processed c in
+-- one count more has room
+room : (done : tie.After-process-round) → let s = start (prepared (flooded done)) in
+    s .args .x .covered + ones (flooded done .flood-identical-round .result .part) ≤ maxNodes * (s .args .k + 1)
+room done =
     let at = flooded done in
     let pre = start (prepared at) .pre in
-    omega (arith, covered-fits (pre .accepted) (pre .early) (pre .going) (prepared at .prepare-round .ensures) (limited at .settings-of .ensures) (limited at .before .length-limit .ensures) (at .flood-identical-round .ensures) (done .process-round .ensures), pre .early)
+    covered-fits (pre .accepted) (pre .early) (pre .going) (prepared at .prepare-round .ensures) (limited at .settings-of .ensures) (limited at .before .length-limit .ensures) (at .flood-identical-round .ensures) (done .process-round .ensures)
+
+cast-t30 : tie.Need-cast-t30
+cast-t30 c = let done = c .before .before in omega (arith, room done, start (prepared (flooded done)) .pre .early)
+
+add-t29 : tie.Need-add-t29
+add-t29 c = let done = processed c in omega (arith, room done, start (prepared (flooded done)) .pre .early)
 
 same-length : tie.Need-same-length
 same-length c =
@@ -76,7 +86,8 @@ run-round-spec =
     settings-of-requires
     flood-identical-round-requires
     process-round-requires
-    add-t30
+    cast-t30
+    add-t29
     same-length
     same-length-2
     returns)
