@@ -1,6 +1,6 @@
 /*
  * ctsim: radios that flood one packet by constructive interference and agree on a log of proposals
- * by a pipelined Paxos. Six entries: draws, rows, diameter, ratio, and two runs.
+ * by a pipelined Paxos. Eight entries: draws, rows, diameter, three ratios, and two runs.
  *
  * Build the library with `rt staticlib capi` and link target/staticlib/libcapi.a. It is for x86-64
  * Linux. It keeps nothing between calls, so that threads may call it at the same time. A run takes
@@ -16,8 +16,9 @@
  * Words. A node is a radio, numbered from 0. A slot is the unit of time: in each slot every node
  * listens, floods (sends the round's packet) or sleeps. A round is one flood of one packet; node
  * (round modulo nodes) starts it. A proposal is a piece of data to agree on; its term is its number,
- * from 0. A node's log is the terms that it held when it committed them, in the order of its
- * commits. docs/NUMBERS.md says more.
+ * from 0. A node's log is its committed terms in the order in which they entered it: a term enters
+ * at the first commit that reaches it while the node holds its data, so a log need not be in order of
+ * the terms. docs/NUMBERS.md says more, and docs/RULES.md has the rules whole.
  */
 #ifndef CTSIM_H
 #define CTSIM_H
@@ -44,7 +45,7 @@ enum ctsim_result {
     CTSIM_REFUSED_INTERVAL = 9,    /* the snapshot interval is 0 */
     CTSIM_REFUSED_BUFFERS = 10,    /* logs, records or, for ctsim_rows, rows are too short */
     CTSIM_REFUSED_RATIO = 11,      /* a count of the ratio is above 2^53 */
-    CTSIM_SHORT = 100,             /* the slice for the summary, or for the single result, is too short */
+    CTSIM_SHORT = 100,             /* a slice for a summary or for a single result is too short */
     CTSIM_NO_RATIO = 101           /* no refusal: there is no ratio, as the second count is 0 */
 };
 
@@ -54,7 +55,7 @@ enum ctsim_topology {
     CTSIM_STAR = 3,      /* node 0 is linked to all others */
     CTSIM_GRID = 4,      /* each node is linked to those beside, above and below it */
     CTSIM_RING = 5,      /* a line whose ends are linked, above 2 nodes */
-    CTSIM_TREE = 6       /* node i is linked to i * b + j for j in 1 to b, the branching */
+    CTSIM_TREE = 6       /* node i is linked to i * b + j for j in 1 to b, the branching, below n */
 };
 
 /* How many places the slices need. */
@@ -80,7 +81,7 @@ enum ctsim_summary {
     CTSIM_SUCCESSES = 8,    /* attempts that were not lost */
     CTSIM_FLOOD_ROUNDS = 9, /* rounds, once more */
     CTSIM_FLOOD_NODES = 10, /* nodes * rounds */
-    CTSIM_COVERED = 11,     /* nodes that held the round's packet after it, over all rounds */
+    CTSIM_COVERED = 11,     /* nodes that held a packet equal to the round's after it, over all rounds */
     CTSIM_NACKS = 12,       /* rounds whose starting node asked for a missing term above 0 */
     CTSIM_PIGGYBACKS = 13,  /* nodes that took part and held that term, over all rounds */
     CTSIM_RECORDS = 14,     /* records: terms that some node has committed */
@@ -118,12 +119,23 @@ uint64_t ctsim_diameter(const uint32_t *rows, size_t rows_length, uint64_t n,
                         uint64_t *links, size_t links_length);
 
 /*
- * Writes part / whole to out[0], as a double that is rounded once. For a run's links take successes
- * and attempts, for its coverage CTSIM_COVERED and CTSIM_FLOOD_NODES.
+ * Writes part / whole to out[0], as a double that is rounded once.
  *   out       at least 1 place
  * Returns 0, 11, 100, or 101 if whole is 0, where there is no ratio.
  */
 uint64_t ctsim_ratio(uint64_t part, uint64_t whole, double *out, size_t out_length);
+
+/*
+ * The two ratios of a run, from its summary: successes over attempts, and covered nodes over
+ * CTSIM_FLOOD_NODES. Each is written to out[0], as ctsim_ratio does.
+ *   summary   at least 16 places, as a run has written them
+ *   out       at least 1 place
+ * Returns 0, 11, 100, or 101 where there is no ratio.
+ */
+uint64_t ctsim_link_pdr(const uint64_t *summary, size_t summary_length,
+                        double *out, size_t out_length);
+uint64_t ctsim_flood_coverage(const uint64_t *summary, size_t summary_length,
+                              double *out, size_t out_length);
 
 /*
  * Runs a topology.
@@ -132,10 +144,12 @@ uint64_t ctsim_ratio(uint64_t part, uint64_t whole, double *out, size_t out_leng
  *   round_slots_given  0: a round's length limit is the greater of 3 and (d + 2) * repeats, d the
  *                      diameter, and round_slots is not read; any other number: it is round_slots
  *   round_slots        0 to 4,096
- *   loss               the chance that an attempt is lost, at least 0 and below 1
+ *   loss               the loss rate, at least 0 and below 1: an attempt is lost when its draw's
+ *                      fraction is below it
  *   seed               any number; it fixes every chance of the run
  *   proposals          how many proposals are made, P, 0 to 64
- *   interval           a snapshot is taken in slots 0, interval, 2 * interval .., at least 1
+ *   interval           a snapshot is taken in slots 0, interval, 2 * interval .. while rounds run;
+ *                      at least 1
  *   limit              a round starts only before this slot; any number
  *   summary            at least 16 places: the numbers of `enum ctsim_summary`
  *   logs               at least 2,080 places: logs[64 * i] and on has the terms of node i's log,

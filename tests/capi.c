@@ -163,6 +163,36 @@ static void test_ratio(void)
     ratio_gives(most + 1, 0, 0, CTSIM_SHORT, 0, "ratio: 100 comes first");
 }
 
+/* Both ratios of a summary of this length, into a slice of this length. */
+static void ratios_give(const uint64_t *of, size_t of_length, size_t length, uint64_t result,
+                        double pdr, double coverage, const char *what)
+{
+    double out[4];
+
+    memset(out, MARK, sizeof out);
+    check(ctsim_link_pdr(of, of_length, out + 1, length) == result, what);
+    check(holds(out, sizeof out, 8, &pdr, result == 0 ? 8 : 0), what);
+    memset(out, MARK, sizeof out);
+    check(ctsim_flood_coverage(of, of_length, out + 1, length) == result, what);
+    check(holds(out, sizeof out, 8, &coverage, result == 0 ? 8 : 0), what);
+}
+
+static void test_ratios(void)
+{
+    uint64_t of[CTSIM_SUMMARY_LENGTH] = { 3, 5, 13, 1, 14, 14, 11, 10, 9, 5, 15, 14, 1, 2, 3, 7 };
+
+    ratios_give(of, 16, 1, 0, 0.9, 14.0 / 15.0, "ratios: of a summary");
+    ratios_give(of, 16, 3, 0, 0.9, 14.0 / 15.0, "ratios: long");
+    ratios_give(of, 15, 1, CTSIM_SHORT, 0, 0, "ratios: summary one short, 100");
+    ratios_give(of, 16, 0, CTSIM_SHORT, 0, 0, "ratios: empty, 100");
+    of[CTSIM_ATTEMPTS] = 0;
+    of[CTSIM_FLOOD_NODES] = 0;
+    ratios_give(of, 16, 1, CTSIM_NO_RATIO, 0, 0, "ratios: none, 101");
+    of[CTSIM_SUCCESSES] = ((uint64_t)1 << 53) + 1;
+    of[CTSIM_COVERED] = ((uint64_t)1 << 53) + 1;
+    ratios_give(of, 16, 1, 11, 0, 0, "ratios: refused 11");
+}
+
 /* A run of a topology, or, where there are rows, of those; and how many places each slice has. */
 struct run {
     const uint32_t *rows;
@@ -304,6 +334,7 @@ int main(void)
     test_rows();
     test_diameter();
     test_ratio();
+    test_ratios();
     test_runs();
     test_loss();
     printf("%u passed, %u failed\n", passed, failed);

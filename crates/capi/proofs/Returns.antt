@@ -1,8 +1,9 @@
 -- The definitions of the entries, where a slice for results is too short and where it is not.
 -- Assumes nothing.
 use Prim.Native.Nat.{ℕ, _≤_, _<_}
-use mathlib.Core.Path.{_≡_, sym, ap, _∙_}
-use mathlib.Core.List.{List}
+use mathlib.Core.Path.{_≡_, refl, sym, ap, _∙_}
+use mathlib.Core.Bool.{and-false}
+use mathlib.Core.List.{List, _++_}
 use lib.Ieee.{Float}
 use lib.ListN.{length}
 use borrow.Author.Tests.{le-leb, lt-leb}
@@ -13,10 +14,11 @@ use Rattle.network.specs.declared.distance.Measured.{Measured}
 use Rattle.config.specs.declared.Config.{Config}
 use Rattle.rules.specs.declared.answer.Answer.{Answer}
 use Rattle.metrics.specs.declared.ratios.Ratio.{Ratio}
+use Rattle.metrics.specs.declared.summary.Summary.{Summary}
 use Rattle.rules.specs.Entries.{runOfRows, runOfTopology}
 use Rattle.rules.specs.Answers.{outcome}
 use Rattle.metrics.specs.Ratio.{ratioOf}
-use Rattle.capi.specs.Capi.{short, summarySize, builtResult, returnedRows, measuredResult, returnedDiameter, ratioResult, returnedRatio, resultOf, withSummary, returned, returnedOutcome, returnedTopology, returnedRun}
+use Rattle.capi.specs.Capi.{short, summarySize, builtResult, returnedRows, measuredResult, returnedDiameter, ratioResult, returnedRatio, summaryNumbers, summaryAt, returnedOf, resultOf, withSummary, returned, returnedOutcome, returnedTopology, returnedRun}
 
 module _ (topology first second : ℕ) (out nodes : List ℕ) where
   pub rows-short : length nodes < 1 → _≡_ {A = ℕ × List ℕ × List ℕ} (short, out, nodes) (returnedRows topology first second out nodes)
@@ -42,9 +44,23 @@ module _ (part whole : ℕ) (out : List Float) where
   unfolding returnedRatio
   ratio-short h = rw (lt-leb _ _ h)
 
-  pub ratio-returned : 1 ≤ length out → (x x' : Ratio) → x ≡ x' → x ≡ ratioOf part whole → ratioResult x' out ≡ returnedRatio part whole out
+  pub ratio-returned : 1 ≤ length out → (x : Ratio) → x ≡ ratioOf part whole → ratioResult x out ≡ returnedRatio part whole out
   unfolding returnedRatio
-  ratio-returned h x x' known e = rw (le-leb _ _ h) (ap (λ (y : Ratio). ratioResult y out) (sym known ∙ e))
+  ratio-returned h x e = rw (le-leb _ _ h) (ap (λ (y : Ratio). ratioResult y out) e)
+
+-- a ratio of a summary
+module _ (f : Summary → Ratio) (summary : List ℕ) (out : List Float) where
+  pub no-summary : length summary < summarySize → _≡_ {A = ℕ × List Float} (short, out) (returnedOf f summary out)
+  unfolding returnedOf
+  no-summary h = rw (lt-leb _ _ h)
+
+  pub no-place : length out < 1 → _≡_ {A = ℕ × List Float} (short, out) (returnedOf f summary out)
+  unfolding returnedOf
+  no-place h = rw (lt-leb 1 (length out) h, and-false)
+
+  pub ratio-of : summarySize ≤ length summary → 1 ≤ length out → (s : Summary) (x : Ratio) → s ≡ summaryAt summary → x ≡ f s → ratioResult x out ≡ returnedOf f summary out
+  unfolding returnedOf
+  ratio-of h l s x e q = rw (le-leb _ _ h, le-leb 1 (length out) l) (ap (λ (y : Ratio). ratioResult y out) (q ∙ ap f e))
 
 -- a run's answer, written to a slice
 convert : (k : ℕ) (s : List ℕ) (a : Answer) (l r p summary : List ℕ) → _≡_ {A = ℕ × List ℕ} (k, s) (resultOf a, withSummary a summary) →
@@ -76,3 +92,7 @@ module _ (rows : List ℕ) (n : ℕ) (c : Config) (summary logs records snapshot
   run-returned h k s c' a l r p written configured e =
       rw (le-leb _ _ h)
       (convert k s a l r p summary written ∙ ap (returnedOutcome summary) (e ∙ ap (λ (x : Config). runOfRows rows n x logs records snapshots) configured))
+
+-- a summary is read as it was written, whatever follows it
+pub summary-back : (s : Summary) (l : List ℕ) → summaryAt (summaryNumbers s ++ l) ≡ s
+summary-back s l = refl

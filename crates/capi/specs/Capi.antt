@@ -1,12 +1,11 @@
 -- What each entry for C returns, and the final contents of the lent slices. The result is 0 or the refusal's number; a refusal leaves
--- every slice as it was. `short` is these entries' own and asked first: has each slice
--- for results its places?
+-- every slice as it was. `short` is these entries' own and asked first: has each slice for results, and for a summary, its places?
 use Prim.Native.Nat.{ℕ}
-use mathlib.Core.Bool.{cond}
+use mathlib.Core.Bool.{cond, _&&_}
 use mathlib.Core.List.{List, [], _∷_}
 use lib.Dec.{eqb, leb}
 use lib.Ieee.{Float}
-use lib.ListN.{length}
+use lib.ListN.{length, getD}
 use lib.Seq.{sets}
 use Rattle.network.specs.Topology.{builtRows}
 use Rattle.network.specs.Distance.{measured}
@@ -57,6 +56,38 @@ ratioResult (Ratio.Refused k) out = (k, out)
 
 unfoldable pub returnedRatio : ℕ → ℕ → List Float → ℕ × List Float
 returnedRatio part whole out = cond (leb 1 (length out)) (ratioResult (ratioOf part whole) out) (short, out)
+
+-- the summary that a slice's first places hold
+abbrev pub summaryAt : List ℕ → Summary
+summaryAt l =
+    record {
+      nodes = getD l 0 0;
+      rounds = getD l 1 0;
+      slots = getD l 2 0;
+      ended = getD l 3 0;
+      listen = getD l 4 0;
+      flood = getD l 5 0;
+      sleep = getD l 6 0;
+      attempts = getD l 7 0;
+      successes = getD l 8 0;
+      «flood_rounds» = getD l 9 0;
+      «flood_nodes» = getD l 10 0;
+      covered = getD l 11 0;
+      nacks = getD l 12 0;
+      piggybacks = getD l 13 0;
+      records = getD l 14 0;
+      snapshots = getD l 15 0;
+    }
+
+-- the two ratios of a run: successes over attempts, and covered nodes over the nodes of all floods
+abbrev pub linkPdr : Summary → Ratio
+linkPdr s = ratioOf (s .successes) (s .attempts)
+
+abbrev pub floodCoverage : Summary → Ratio
+floodCoverage s = ratioOf (s .covered) (s .«flood_nodes»)
+
+unfoldable pub returnedOf : (Summary → Ratio) → List ℕ → List Float → ℕ × List Float
+returnedOf f summary out = cond (leb summarySize (length summary) && leb 1 (length out)) (ratioResult (f (summaryAt summary)) out) (short, out)
 
 -- the configuration of a run; round slots are absent where `given` is 0
 abbrev pub slotsFrom : ℕ → ℕ → RoundSlots

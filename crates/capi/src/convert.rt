@@ -1,17 +1,22 @@
-// The configuration that the numbers of a call make, and the summary as numbers.
+// The configuration that the numbers of a call make, the summary as numbers, and a ratio as a result.
 use config::Config;
 use config::RoundSlots;
+use metrics::ratios::Ratio;
 use metrics::summary::Summary;
 use rules::answer::Answer;
 ghost use Prim.Native.Nat.{ℕ, _≤_};
 ghost use mathlib.Core.Path.{_≡_};
 ghost use mathlib.Core.List.{List};
+ghost use lib.Ieee.{Float};
 ghost use lib.ListN.{length};
 ghost use lib.Seq.{sets};
-ghost use Rattle.capi.specs.Capi.{summarySize, slotsFrom, configFrom, summaryNumbers, resultOf, withSummary};
+ghost use Rattle.capi.specs.Capi.{summarySize, slotsFrom, configFrom, summaryNumbers, summaryAt, ratioResult, resultOf, withSummary};
 
 // How many places a summary has.
 pub const SUMMARY_SIZE: usize = 16;
+
+// No refusal: the divisor is 0, and there is no ratio.
+const NO_RATIO: u64 = 101;
 
 // Round slots, or none where `given` is 0.
 fn slots_from(given: u64, slots: u64) -> RoundSlots
@@ -68,6 +73,46 @@ fn write_summary(s: Summary, out: &mut [u64])
     out[13] = s.piggybacks;
     out[14] = s.records;
     out[15] = s.snapshots;
+}
+
+// The summary that was written to these places.
+pub fn read_summary(s: &[u64]) -> Summary
+    requires { ⌜ summarySize ≤ length (now s) ⌝ }
+    ensures { λ r. ⌜ r ≡ summaryAt (now (s .entry)) ⌝ }
+{
+    Summary {
+        nodes: s[0],
+        rounds: s[1],
+        slots: s[2],
+        ended: s[3],
+        listen: s[4],
+        flood: s[5],
+        sleep: s[6],
+        attempts: s[7],
+        successes: s[8],
+        flood_rounds: s[9],
+        flood_nodes: s[10],
+        covered: s[11],
+        nacks: s[12],
+        piggybacks: s[13],
+        records: s[14],
+        snapshots: s[15],
+    }
+}
+
+// The result of a ratio, which is written to the first place if there is one.
+pub fn write_ratio(answer: Ratio, out: &mut [f64]) -> u64
+    requires { ⌜ 1 ≤ length (now out) ⌝ }
+    ensures { λ r. ⌜ _≡_ {A = ℕ × List Float} (r, now (out .exit)) (ratioResult answer (now (out .entry))) ⌝ }
+{
+    match answer {
+        Ratio::None => NO_RATIO,
+        Ratio::Refused(k) => k,
+        Ratio::Of(x) => {
+            out[0] = x;
+            0
+        }
+    }
 }
 
 // The result of a run's answer; the summary is written if there is one.

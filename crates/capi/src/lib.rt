@@ -4,9 +4,12 @@ mod convert;
 
 use convert::SUMMARY_SIZE;
 use convert::config_from;
+use convert::read_summary;
 use convert::write_answer;
+use convert::write_ratio;
 use metrics::ratio::ratio;
-use metrics::ratios::Ratio;
+use metrics::ratios::flood_coverage;
+use metrics::ratios::link_pdr;
 use network::distance::Measured;
 use network::distance::diameter;
 use network::topology::Built;
@@ -21,13 +24,10 @@ ghost use lib.Ieee.{Float};
 ghost use lib.ListN.{length};
 ghost use Rattle.random.specs.Draws.{draw};
 ghost use Rattle.random.specs.Table.{tabulate};
-ghost use Rattle.capi.specs.Capi.{returnedRows, returnedDiameter, returnedRatio, configFrom, returned, returnedTopology, returnedRun};
+ghost use Rattle.capi.specs.Capi.{returnedRows, returnedDiameter, returnedRatio, linkPdr, floodCoverage, returnedOf, configFrom, returned, returnedTopology, returnedRun};
 
 // What only these entries return: a slice for results is too short.
 const SHORT: u64 = 100;
-
-// No refusal: the divisor is 0, and there is no ratio.
-const NO_RATIO: u64 = 101;
 
 // Fills a slice with the draws of a seed, from draw 0 on. Never refused.
 #[no_mangle]
@@ -91,15 +91,35 @@ pub extern "C" fn ctsim_ratio(part: u64, whole: u64, out: &mut [f64]) -> u64
     if out.len() < 1 {
         return SHORT;
     }
-    let answer = ratio(part, whole);
-    match answer {
-        Ratio::None => NO_RATIO,
-        Ratio::Refused(k) => k,
-        Ratio::Of(x) => {
-            out[0] = x;
-            0
-        }
+    write_ratio(ratio(part, whole), out)
+}
+
+// The link ratio of a run with this summary into the first place of `out`: successes over attempts.
+#[no_mangle]
+pub extern "C" fn ctsim_link_pdr(summary: &[u64], out: &mut [f64]) -> u64
+    ensures { λ r. ⌜ _≡_ {A = ℕ × List Float} (r, now (out .exit)) (returnedOf linkPdr (now (summary .entry)) (now (out .entry))) ⌝ }
+{
+    if summary.len() < SUMMARY_SIZE {
+        return SHORT;
     }
+    if out.len() < 1 {
+        return SHORT;
+    }
+    write_ratio(link_pdr(read_summary(summary)), out)
+}
+
+// The coverage of its floods: the covered nodes over all that they went to.
+#[no_mangle]
+pub extern "C" fn ctsim_flood_coverage(summary: &[u64], out: &mut [f64]) -> u64
+    ensures { λ r. ⌜ _≡_ {A = ℕ × List Float} (r, now (out .exit)) (returnedOf floodCoverage (now (summary .entry)) (now (out .entry))) ⌝ }
+{
+    if summary.len() < SUMMARY_SIZE {
+        return SHORT;
+    }
+    if out.len() < 1 {
+        return SHORT;
+    }
+    write_ratio(flood_coverage(read_summary(summary)), out)
 }
 
 // A run of the topology with that number. `given` says whether there are round slots: 0 no, any other yes.
