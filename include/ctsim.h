@@ -4,7 +4,7 @@
  *
  * Build the library with `rt staticlib capi` and link target/staticlib/libcapi.a. It is for x86-64
  * Linux. It keeps nothing between calls, so that threads may call it at the same time. A run takes
- * about 135,000 bytes of the caller's stack.
+ * about 60,000 bytes of the caller's stack.
  *
  * Results. Every entry returns 0 if it is done, else a number of `enum ctsim_result`. Where it
  * returns another number than 0, it has written nothing.

@@ -1,5 +1,5 @@
 #!/bin/sh
-# Checks the generator against Debian's, and the oracle against document 01's edges.
+# Checks the generator against Debian's, and the oracle against the rules' edges.
 set -eu
 
 usage() {
@@ -9,7 +9,7 @@ usage: oracle/check.sh [--source DIR]
 Builds as oracle/build.sh does, with the same option, and then
 - compares oracle/'s rand and rand_chacha with the published ChaCha vectors and
   with Debian's real crates, over thousands of seeds;
-- runs document 01's edges and the tests of the line reader by the Rust itself.
+- runs the rules' edges and the tests of the line reader by the Rust itself.
 HELP
 }
 

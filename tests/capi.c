@@ -231,7 +231,7 @@ static void refused(struct run r, uint64_t number, const char *what)
           && kept(records, records + COUNT(records)) && kept(snapshots, snapshots + COUNT(snapshots)), what);
 }
 
-/* Document 01's printed run, whose slices are as long as r says, at least as long as needed. */
+/* The printed run, whose slices are as long as r says, at least as long as needed. */
 static void printed(struct run r, const char *what)
 {
     static const uint64_t numbers[] = {3, 2, 5, 1, 5, 6, 4, 4, 4, 2, 6, 6, 0, 0, 1, 3};

@@ -1,4 +1,4 @@
-// Runs document 01's edges that no theorem shows and no line of `replay` can ask for: buffers one
+// Runs the edges that no theorem shows and no line of `replay` can ask for: buffers one
 // short, exactly full and longer than needed, ratios at their boundaries, and inputs that are no
 // line. Places of a buffer hold a mark beforehand; how many still hold it is printed as kept.
 mod marks;

@@ -12,7 +12,7 @@ use metrics::summary::Summary;
 use rules::answer::Answer;
 use sim::entries::run_topology;
 
-// The configuration of the run that document 01 prints, but for the round slots.
+// The configuration of the printed run (rule 14.3's first), but for the round slots.
 fn configured(slots: RoundSlots) -> Config {
     Config {
         flood_repeats: 1,
@@ -107,7 +107,7 @@ fn refusals() {
     show(b"interval 0:", 2, 3, 0, with_interval(0));
 }
 
-// Document 01's run with log and record buffers of these lengths.
+// The printed run with log and record buffers of these lengths.
 fn show_buffers(name: &[u8], logs: &mut [u8], records: &mut [u64], config: Config) {
     let mut snapshots = [77u64; 15];
     let a = run_topology(2, 3, 0, config, logs, records, &mut snapshots);
@@ -155,7 +155,7 @@ fn long_buffers() {
     show_buffers(b"longer:", &mut more, &mut many, printed_config());
 }
 
-// Document 01's run with a snapshot buffer of this length.
+// The printed run with a snapshot buffer of this length.
 fn show_snapshots(snapshots: &mut [u64]) {
     let mut logs = [77u8; LOG_SIZE];
     let mut records = [77u64; RECORDS_SIZE];

@@ -1,6 +1,5 @@
--- The program's line (document 01, "The printed run"): "topology, nodes or rows, second number, repeats, round slots or `-`, loss
--- (16 lowercase hexadecimal digits of the f64), seed, P, interval, slot limit; single spaces; decimals of 1 to 20 digits below 2^64.
--- The line ends at the first newline or the end of the input; what follows is ignored."
+-- The program's line (rules 10.1 to 10.4): topology, first, second, repeats, round slots or `-`, loss as 16 hexadecimal digits, seed, P,
+-- interval and slot limit, with single spaces between them. It ends at the first newline or the end of the input.
 use Prim.Native.Nat.{ℕ, _+_}
 use mathlib.Core.Bool.{Bool, cond, _&&_}
 use mathlib.Core.Option.{Option, none, some}

@@ -1,4 +1,4 @@
--- Numbers as text (document 01, "The printed run").
+-- Numbers as text (rules 10.3 and 10.4).
 use Prim.Native.Nat.{ℕ, _+_, _-_, _*_, _^_}
 use mathlib.Core.Bool.{Bool, true, cond, _&&_}
 use mathlib.Core.Option.{Option, none, some}

@@ -105,7 +105,7 @@ fn long() {
     show(&spaces);
 }
 
-// The summary of document 01's run.
+// The summary of the printed run (rule 14.3's first).
 fn printed_summary() -> Summary {
     Summary {
         nodes: 3,
@@ -127,7 +127,7 @@ fn printed_summary() -> Summary {
     }
 }
 
-// Document 01's listing; then with no snapshot stored, and the logs empty, of one term and full.
+// Its listing; then with no snapshot stored, and the logs empty, of one term and full.
 fn listings() {
     let records = [0u64, 0, 3];
     let snapshots = [0u64, 0, 2, 1, 0, 2, 0, 0, 1, 2, 4, 0, 0, 2, 1];

@@ -1,4 +1,4 @@
--- The program's listing (document 01, "The printed run").
+-- The program's listing (rules 11.1 to 11.7 of docs/RULES.md).
 use Prim.Native.Nat.{ℕ, zero, suc, _+_, _-_, _*_, _/_, _%_, min}
 use Prim.Native.String.{String}
 use mathlib.Core.Bool.{true, false}

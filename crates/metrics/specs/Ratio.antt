@@ -1,5 +1,5 @@
--- A ratio of two counts (document 01): "none for a zero divisor, else the f64 quotient rounded once". Question 11: are both counts at
--- most 2^53?
+-- A ratio of two counts (rule 8.1): none for a zero divisor, else the f64 quotient rounded once; refused by 11 where a count is above
+-- 2^53.
 use Prim.Native.Nat.{ℕ, _^_}
 use mathlib.Core.Bool.{Bool, cond, _&&_}
 use lib.IntN.{pos}

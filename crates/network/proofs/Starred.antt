@@ -1,4 +1,4 @@
--- The diameters that document 01 marks as proved, by computation.
+-- The diameters of rule 14.2, by computation.
 -- Assumes nothing.
 use mathlib.Core.Path.{_≡_, refl}
 use mathlib.Core.List.{[], _∷_}

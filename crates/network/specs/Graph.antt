@@ -1,4 +1,4 @@
--- Rows, links and paths. A set of nodes is a number: node j is in it when its binary digit j is 1. A node's row is the set of its
+-- Rows, links and paths (rules 1.3, 3.1, 3.3 and 3.4). A set of nodes is a number: node j is in it when its binary digit j is 1. A node's row is the set of its
 -- neighbours, and a graph is the list of its rows.
 use mathlib.Core.Path.{_≡_}
 use mathlib.Core.Bool.{Bool, true, false, not, cond, _&&_, _||_, Bool·beq}

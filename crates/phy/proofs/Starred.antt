@@ -1,4 +1,4 @@
--- The length limits that document 01 marks as proved, by computation. Assumes nothing.
+-- The length limits of rule 14.2, by computation. Assumes nothing.
 use mathlib.Core.Path.{_≡_, refl}
 use mathlib.Core.List.{[], _∷_}
 use Rattle.config.specs.declared.RoundSlots.{RoundSlots}

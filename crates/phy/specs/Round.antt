@@ -1,4 +1,4 @@
--- One round of a flood (document 01, "One flood").
+-- One round of a flood (rules 4.2 to 4.4 and 4.9 to 4.12).
 use Prim.Native.Nat.{ℕ, zero, suc, _+_, _*_, max}
 use mathlib.Core.Bool.{true, false, _||_}
 use mathlib.Core.List.{List}

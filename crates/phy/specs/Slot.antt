@@ -1,4 +1,4 @@
--- One slot of a flood (document 01, "One flood"). The nodes of a round are a list of n records.
+-- One slot of a flood (rules 4.5 to 4.8). The nodes of a round are a list of n records.
 use Prim.Native.Nat.{ℕ, zero, suc, _+_, _^_}
 use mathlib.Core.Bool.{Bool, true, false, cond, _&&_}
 use mathlib.Core.List.{List, [], _∷_, _++_}

@@ -1,4 +1,4 @@
--- What a lent buffer holds of the snapshots that were taken (document 01, "One flood").
+-- What a lent buffer holds of the snapshots that were taken (rule 7.3).
 use Prim.Native.Nat.{ℕ, _/_}
 use mathlib.Core.List.{List, flatten}
 use lib.ListN.{length, take}

@@ -1,4 +1,4 @@
--- `prepare_round` and `process_round` over all nodes (document 01, "Rounds and the run").
+-- `prepare_round` and `process_round` over all nodes (rules 6.3, 6.4, 6.7 and 6.8).
 use Prim.Native.Nat.{ℕ, zero, suc, _+_, _%_, min}
 use mathlib.Core.Bool.{Bool, true, false, cond, _||_}
 use mathlib.Core.List.{List, [], _∷_, _++_}

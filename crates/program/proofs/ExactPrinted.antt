@@ -1,4 +1,4 @@
--- The printed run of document 01 meets demand 3's premises, so the theorem speaks of it. Assumes nothing.
+-- The printed run meets demand 3's premises, so the theorem speaks of it. Assumes nothing.
 use mathlib.Core.Bool.{false}
 use mathlib.Core.List.{[], flatten}
 use mathlib.Core.Path.{_≡_, refl, sym}

@@ -1,4 +1,4 @@
--- The printed run of document 01, computed from the definitions: its line's ten numbers, and its listing. Assumes nothing.
+-- The printed run (rule 14.3's first), computed from the definitions: its line's ten numbers, and its listing. Assumes nothing.
 use Prim.Native.Nat.{ℕ}
 use mathlib.Core.Path.{_≡_, refl}
 use mathlib.Core.List.{List, [], _∷_, _++_}

@@ -1,4 +1,4 @@
--- The starred runs of document 01, together. Assumes nothing.
+-- The values of section 14 that are proved, together. Assumes nothing.
 use Prim.Native.Nat.{ℕ, _+_, _-_, _/_, _^_, _≤_}
 use mathlib.Core.Bool.{Bool, true, false, cond}
 use mathlib.Core.List.{List, flatten}

@@ -1,3 +1,3 @@
--- What the program answers, and document 01's starred runs.
+-- What the program answers, and the starred runs.
 pub mod Printed
 pub mod StarredRuns

@@ -1,4 +1,4 @@
--- The printed run (document 01): what the program writes for what it reads.
+-- The printed run (sections 10 and 11): what the program writes for what it reads.
 use Prim.Native.Nat.{ℕ}
 use mathlib.Core.List.{List}
 use lib.ListN.{replicate}

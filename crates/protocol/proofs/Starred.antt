@@ -1,4 +1,4 @@
--- The starred runs of document 01 that are of this crate, computed from the definitions. Assumes nothing.
+-- The values of rule 14.2 that are of this crate, computed from the definitions. Assumes nothing.
 use Prim.Native.Nat.{ℕ}
 use mathlib.Core.List.{List, [], _∷_, map}
 use mathlib.Core.Path.{_≡_, refl}

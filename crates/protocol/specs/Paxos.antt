@@ -1,4 +1,4 @@
--- A node's Paxos state and what is done with it, after document 01, "Node turns". A term is its number.
+-- A node's Paxos state and what is done with it, (rules 5.1 to 5.8). A term is its number.
 -- A set of nodes is a number: bit i, which is `s / 2 ^ i % 2`, says whether node i is in it.
 use Prim.Native.Nat.{ℕ, zero, suc, _+_, _-_, _*_, _/_, _%_, _^_, max}
 use mathlib.Core.Bool.{Bool, true, false, cond, _||_}

@@ -1,4 +1,4 @@
--- The two turns of a node, each a function of the node's own state: what it does as the initiator of a round, and
+-- The two turns of a node (rules 5.9 and 5.10), each a function of the node's own state: what it does as the initiator of a round, and
 -- what it does with the packet of a round that it took part in.
 use Prim.Native.Nat.{ℕ, _+_, _-_}
 use mathlib.Core.Bool.{Bool, true, false, cond}

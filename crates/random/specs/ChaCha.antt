@@ -1,4 +1,4 @@
--- ChaCha (RFC 8439, sections 2.1 to 2.3), with the number of double rounds as a parameter, and the key stream of document 01.
+-- ChaCha (RFC 8439, sections 2.1 to 2.3), with the number of double rounds as a parameter, and the blocks of rule 2.2.
 use Prim.Native.Nat.{ℕ, zero, suc, _+_, _/_, _%_, _^_, _<_}
 use mathlib.Core.List.{List, [], _∷_, _++_}
 use lib.ListN.{getD, set}

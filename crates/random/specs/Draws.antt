@@ -1,4 +1,4 @@
--- The draws of a seed (document 01, "Units and draws").
+-- The draws of a seed (rules 2.3 and 2.4).
 use Prim.Native.Nat.{ℕ, _+_, _*_, _/_, _%_, _^_, _<_}
 use mathlib.Core.Path.{_≡_}
 use mathlib.Core.List.{List}

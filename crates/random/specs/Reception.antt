@@ -1,4 +1,4 @@
--- Fraction and reception (document 01, "Units and draws").
+-- Fraction and reception (rules 2.5 and 2.6).
 use Prim.Native.Nat.{ℕ, _+_, _/_, _^_}
 use mathlib.Core.Path.{_≡_}
 use mathlib.Core.Bool.{Bool, false, _||_}

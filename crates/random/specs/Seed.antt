@@ -1,4 +1,4 @@
--- Seed expansion (document 01, "Units and draws").
+-- Seed expansion (rule 2.1).
 use Prim.Native.Nat.{ℕ, zero, suc, _+_, _*_, _/_, _%_, _^_}
 use mathlib.Core.List.{List}
 use lib.Bits.{bitXor}

@@ -1,5 +1,5 @@
-// Answers every line of its input as the Rust source does. The first 71 lines are document 01's
-// questions, each on both sides of its boundary; the others were chosen among those of `oracle/`'s
+// Answers every line of its input as the Rust source does. The first 71 lines put each question
+// on both sides of its boundary; the others were chosen among those of `oracle/`'s
 // program `inputs` (small, random and broken), so that each end, lossy runs, NACKs, piggybacks,
 // graphs given by rows and refusals are among them. `stdout` is what `oracle/`'s program `answer`
 // prints for `stdin`.

@@ -1,4 +1,4 @@
--- Bounds on the counts of every accepted run.
+-- Bounds on the counts of every accepted run (rule 12.5).
 use Prim.Native.Nat.{ℕ, _+_, _-_, _*_, _/_, _^_, _≤_, _<_}
 use mathlib.Core.List.{List}
 use mathlib.Core.Path.{_≡_}

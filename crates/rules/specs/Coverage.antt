@@ -1,4 +1,4 @@
--- In every round the covered nodes are those that took part. Covered is a node whose held packet equals the round's, also one kept from
+-- In every round the covered nodes are those that took part (rule 4.12). Covered is a node whose held packet equals the round's, also one kept from
 -- an earlier round; but a packet names its sender, and between two rounds of one sender every other node starts a round and holds its own
 -- packet from then on.
 use Prim.Native.Nat.{ℕ, _<_}

@@ -1,4 +1,4 @@
--- What an entry answers, and the final contents of the lent buffers.
+-- What an entry answers, and the final contents of the lent buffers (rules 7.1 to 7.5 and 9.1).
 use Prim.Native.Nat.{ℕ, zero, suc, _+_, _*_}
 use mathlib.Core.List.{List, [], _∷_, map}
 use mathlib.Core.Option.{Option, none, some}

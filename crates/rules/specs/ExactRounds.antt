@@ -1,4 +1,4 @@
--- Demand 3: what an accepted run is in which no reception is lost. P are the proposals, n the nodes, d the diameter and r the repeats;
+-- Demand 3 (rules 12.3 and 12.4): what an accepted run is in which no reception is lost. P are the proposals, n the nodes, d the diameter and r the repeats;
 -- e is the greatest distance from the node that starts a round.
 use Prim.Native.Nat.{ℕ, zero, suc, _+_, _-_, _*_, _/_, _≤_, _<_}
 use mathlib.Core.List.{List}

@@ -1,4 +1,4 @@
--- The questions put to an input (document 01), each with its number; the first "no" gives its number.
+-- The questions put to an input (rules 9.1 to 9.3), each with its number; the first "no" gives its number.
 use Prim.Native.Nat.{ℕ}
 use mathlib.Core.Bool.{Bool, true, false, _&&_}
 use mathlib.Core.List.{List, [], _∷_, _++_}

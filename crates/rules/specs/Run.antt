@@ -1,4 +1,4 @@
--- The rounds, the four ends and the run (document 01, "Rounds and the run").
+-- The rounds, the four ends and the run (rules 6.1 to 6.10).
 use Prim.Native.Nat.{ℕ, zero, suc, _+_, _-_, _*_}
 use mathlib.Core.Bool.{Bool, true, false, cond, _&&_}
 use mathlib.Core.List.{List, [], _∷_, _++_}

@@ -1,5 +1,5 @@
 //! Compares oracle/'s generator with the published vectors and with Debian's
-//! rand and rand_chacha. `gen_range` is left out: request L11 gives it another
+//! rand and rand_chacha. `gen_range` is left out: it has another
 //! meaning than the crate's.
 
 mod vectors;

@@ -1,5 +1,5 @@
 //! Inputs to compare on: a list of small ones, random ones around the limits of
-//! document 01's questions, and broken ones.
+//! the questions, and broken ones.
 
 use crate::answer::{run, Answer};
 use crate::input::{Graph, Input, GRID, TREE};

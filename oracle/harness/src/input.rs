@@ -1,4 +1,4 @@
-//! Lines, and the questions that document 01 puts to them.
+//! Lines, and the questions that are put to them (rule 9.2).
 
 use std::fmt;
 use std::ops::RangeInclusive;

@@ -1,4 +1,4 @@
-//! ctsim, asked by lines of document 01's form or of the rows form.
+//! ctsim, asked by lines of the program's form or of the rows form.
 
 mod answer;
 mod generate;

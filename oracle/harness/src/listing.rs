@@ -1,4 +1,4 @@
-//! Document 01's listing, and what can be printed after it.
+//! The program's listing, and what can be printed after it.
 
 use crate::answer::{Answer, Summary};
 use std::fmt;

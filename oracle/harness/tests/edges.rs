@@ -1,4 +1,4 @@
-//! Document 01's runs at the edges, by the Rust itself.
+//! The rules' runs at the edges, by the Rust itself.
 
 use ctsim::network::NetworkGraph;
 use ctsim::protocol::paxos::{NodePaxosState, PendingProposal};

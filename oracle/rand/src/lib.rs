@@ -1,5 +1,5 @@
-//! What ctsim's files call of the crate `rand`, with the meaning of document 01
-//! and, for the capture rounds, of request L11.
+//! What ctsim's files call of the crate `rand`, with the meaning of docs/RULES.md;
+//! `gen_range` is the draw modulo the range's length, for capture rounds.
 //!
 //! The random topologies are left out of the comparison. What only they call has
 //! to compile and no more: it stops with a message.

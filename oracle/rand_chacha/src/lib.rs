@@ -1,4 +1,4 @@
-//! `ChaCha8Rng` as document 01 describes it: the seed expanded to ChaCha's key,
+//! `ChaCha8Rng` as docs/RULES.md describes it: the seed expanded to ChaCha's key,
 //! eight rounds, a 64-bit block counter from 0, words 14 and 15 zero.
 
 use rand::{RngCore, SeedableRng};

@@ -13,7 +13,7 @@ Prints lines for `answer`.
   small   every topology of 2 to 4 nodes and the rows of every labelled graph of
           that size, with repeats 1 to 3, round slots absent and 0 to 4, P 0 to 3,
           loss 0 and 0.5
-  random  COUNT accepted lines around the limits of document 01's questions
+  random  COUNT accepted lines around the limits of the questions
   broken  COUNT lines with values beyond a limit or unreadable, a few still accepted
 The same SEED gives the same lines.
 ";

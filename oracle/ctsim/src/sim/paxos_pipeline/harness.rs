@@ -9,7 +9,7 @@ pub struct Finished {
     pub core: CiPipelineCore,
     pub states: Vec<NodePaxosState>,
     pub round_starts: Vec<Slot>,
-    /// Document 01's end number, 1 to 4.
+    /// The end number of rule 6.9, 1 to 4.
     pub ended: u8,
 }
 
