@@ -43,7 +43,8 @@ const RUNS: [(&str, &str); 6] = [
 ];
 
 /// How cost grows: with the nodes, with the rounds, with the loss.
-const GROWTH: [(&str, &str); 14] = [
+const GROWTH: [(&str, &str); 15] = [
+    ("line 31, lossless, P 0: one round", "2 31 0 1 - 0000000000000000 7 0 100 1000000"),
     ("line 2, lossless, P 16", "2 2 0 2 - 0000000000000000 7 16 100 1000000"),
     ("line 4, lossless, P 16", "2 4 0 2 - 0000000000000000 7 16 100 1000000"),
     ("line 8, lossless, P 16", "2 8 0 2 - 0000000000000000 7 16 100 1000000"),
