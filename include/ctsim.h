@@ -35,7 +35,7 @@ extern "C" {
 enum ctsim_result {
     CTSIM_DONE = 0,
     CTSIM_REFUSED_TOPOLOGY = 1,    /* the topology is not 1 to 6 */
-    CTSIM_REFUSED_NODES = 2,       /* not 2 to 32 nodes; for a grid rows, columns or product */
+    CTSIM_REFUSED_NODES = 2,       /* not 2 to 32 nodes; a grid's rows or columns not 1 to 32 */
     CTSIM_REFUSED_SECOND = 3,      /* second is above 32 for a tree, or not 0 for 1, 2, 3, 5 */
     CTSIM_REFUSED_ROWS = 4,        /* fewer rows than nodes, or rows that are no graph */
     CTSIM_REFUSED_REPEATS = 5,     /* the repeats are not 1 to 64 */
@@ -126,8 +126,8 @@ uint64_t ctsim_diameter(const uint32_t *rows, size_t rows_length, uint64_t n,
 uint64_t ctsim_ratio(uint64_t part, uint64_t whole, double *out, size_t out_length);
 
 /*
- * The two ratios of a run, from its summary: successes over attempts, and covered nodes over
- * CTSIM_FLOOD_NODES. Each is written to out[0], as ctsim_ratio does.
+ * The two ratios of a run, from its summary: successes over attempts, which is the packet delivery
+ * ratio, and covered nodes over CTSIM_FLOOD_NODES. Each is written to out[0], as ctsim_ratio does.
  *   summary   at least 16 places, as a run has written them
  *   out       at least 1 place
  * Returns 0, 11, 100, or 101 where there is no ratio.

@@ -1,4 +1,4 @@
--- What each entry for C returns, and the final contents of the lent slices. The result is 0 or the refusal's number; a refusal leaves
+-- What each entry for C returns, and the final contents of the lent slices (rules 7.5, 7.6 and 9.4). The result is 0 or the refusal's number; a refusal leaves
 -- every slice as it was. `short` is these entries' own and asked first: has each slice for results, and for a summary, its places?
 use Prim.Native.Nat.{ℕ}
 use mathlib.Core.Bool.{cond, _&&_}
@@ -105,7 +105,7 @@ configFrom repeats given slots loss seed proposals interval limit =
       «max_slots» = limit;
     }
 
--- the summary's numbers, in the listing's order
+-- the summary's numbers, in the order of rule 7.5
 abbrev pub summaryNumbers : Summary → List ℕ
 summaryNumbers s =
     s .nodes

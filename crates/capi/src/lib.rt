@@ -108,7 +108,8 @@ pub extern "C" fn ctsim_link_pdr(summary: &[u64], out: &mut [f64]) -> u64
     write_ratio(link_pdr(read_summary(summary)), out)
 }
 
-// The coverage of its floods: the covered nodes over all that they went to.
+// The coverage ratio of a run with this summary, into the first place of `out`: covered nodes over
+// flooded nodes.
 #[no_mangle]
 pub extern "C" fn ctsim_flood_coverage(summary: &[u64], out: &mut [f64]) -> u64
     ensures { λ r. ⌜ _≡_ {A = ℕ × List Float} (r, now (out .exit)) (returnedOf floodCoverage (now (summary .entry)) (now (out .entry))) ⌝ }

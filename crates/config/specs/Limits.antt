@@ -1,9 +1,9 @@
--- The limits of the rules and the layouts of the lent buffers, each by its name.
+-- The limits of the rules (rule 1.6) and the layouts of the lent buffers (rules 7.1 to 7.3), each by its name.
 use Prim.Native.Nat.{ℕ, _+_, _*_}
 
--- how many bits a word has: how many nodes or terms a set in a word can tell apart
-abbrev pub wordBits : ℕ
-wordBits = 64
+-- how many bits a set has: how many nodes or terms it can tell apart
+abbrev pub setBits : ℕ
+setBits = 64
 
 -- the most nodes of a graph
 abbrev pub maxNodes : ℕ
@@ -22,6 +22,14 @@ maxRoundSlots = 4096
 -- the most children of a node of a tree
 abbrev pub maxBranching : ℕ
 maxBranching = 32
+
+-- the least length limit of a flood whose round slots are absent
+abbrev pub leastLength : ℕ
+leastLength = 3
+
+-- end 2: the round's index is above P + 5d
+abbrev pub roundsPerLink : ℕ
+roundsPerLink = 5
 
 -- end 3: the round's index is above P + 1,000
 abbrev pub extraRounds : ℕ

@@ -1,4 +1,4 @@
-// What a run is asked to do, after the source's config.rs, and the limits of what may be asked.
+// What a run is asked to do, after ctsim's config.rs, and the limits of what may be asked.
 pub mod limits;
 
 // The configured length of a round, or none.

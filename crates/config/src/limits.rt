@@ -1,7 +1,8 @@
-// The limits of the rules and the layouts of the lent buffers, each by its name.
+// The limits of the rules (rule 1.6) and the layouts of the lent buffers (rules 7.1 to 7.3), each by
+// its name.
 
-// How many bits a word has: how many nodes or terms a set in a word can tell apart.
-pub const WORD_BITS: usize = 64;
+// How many bits a set has: how many nodes or terms it can tell apart.
+pub const SET_BITS: usize = 64;
 
 // The most nodes of a graph.
 pub const MAX_NODES: usize = 32;
@@ -16,24 +17,30 @@ pub const MAX_ROUND_SLOTS: u64 = 4096;
 // The most children of a node of a tree.
 pub const MAX_BRANCHING: u64 = 32;
 
-// A run goes on at most this far beyond the round whose number is that of its proposals.
+// The least length limit of a flood whose round slots are absent.
+pub const LEAST_LENGTH: u64 = 3;
+
+// End 2: the round's index is above the proposals plus this times the diameter.
+pub const ROUNDS_PER_LINK: u64 = 5;
+
+// End 3: the round's index is above the proposals plus this.
 pub const EXTRA_ROUNDS: u64 = 1000;
 
-// So many rounds beyond its proposals are always enough for a run.
+// A run of P proposals has at most P plus this many rounds.
 pub const ENOUGH_ROUNDS: u64 = EXTRA_ROUNDS + 2;
 
 // A record: id, start, end.
 pub const RECORD_SIZE: usize = 3;
 
-pub const RECORDS_SIZE: usize = 192;
+pub const RECORDS_SIZE: usize = RECORD_SIZE * MAX_TERMS;
 
 // A snapshot: slot, progress, listening, flooding, sleeping.
 pub const SNAPSHOT_SIZE: usize = 5;
 
 // The log buffer: the terms of node i from MAX_TERMS times i on, its count at LOG_COUNTS + i.
-pub const LOG_COUNTS: usize = 2048;
+pub const LOG_COUNTS: usize = MAX_TERMS * MAX_NODES;
 
-pub const LOG_SIZE: usize = 2080;
+pub const LOG_SIZE: usize = LOG_COUNTS + MAX_NODES;
 
 // The most snapshots that the program lists.
 pub const MAX_LISTED: usize = 1000;

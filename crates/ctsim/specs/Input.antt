@@ -1,4 +1,4 @@
--- What was read.
+-- What was read (rule 10.5).
 use Prim.Native.Nat.{ℕ}
 use Rattle.ctsim.specs.declared.Input.{Input}
 use Rattle.ctsim.specs.declared.Input.the-variants.{Bytes, Failed}

@@ -1,4 +1,4 @@
--- The configuration that a line asks for.
+-- The configuration that a line asks for (rules 1.4, 1.5 and 10.4).
 use lib.Ieee.{ofBits, binary64}
 use Rattle.config.specs.declared.Config.{Config}
 use Rattle.line.specs.declared.read.Line.{Line}

@@ -1,4 +1,4 @@
--- Quoted text as bytes.
+-- Quoted text as bytes (rule 11.1).
 use Prim.Native.Nat.{ℕ}
 use Prim.Native.Char.{code}
 use Prim.Native.String.{String}

@@ -1,4 +1,4 @@
--- The program's listing (rules 11.1 to 11.7 of docs/RULES.md).
+-- The program's listing (rules 11.1 to 11.7).
 use Prim.Native.Nat.{ℕ, zero, suc, _+_, _-_, _*_, _/_, _%_, min}
 use Prim.Native.String.{String}
 use mathlib.Core.Bool.{true, false}
@@ -64,8 +64,8 @@ termText logs i k = labelled " " (getD logs (maxTerms * i + k) 0)
 unfoldable pub logLine : List ℕ → ℕ → List ℕ
 logLine logs i = labelled "log " i ++ each (termText logs i) (min (getD logs (logCounts + i) 0) maxTerms) ++ ascii "\n"
 
--- The listing: three lines of totals, the records, the stored snapshots and the logs. At most 64 records, 1,000 snapshots and 32 logs of
--- 64 terms are listed, as many as a run has. A snapshot is stored where it fits whole. A place past a buffer's end reads as 0.
+-- The listing: three lines of totals, the records, the stored snapshots and the logs. At most 64 records and 32 logs of 64 terms are
+-- listed, as many as a run can have, and the first 1,000 snapshots. A snapshot is stored where it fits whole. A place past a buffer's end reads as 0.
 unfoldable pub listing : Summary → List ℕ → List ℕ → List ℕ → List ℕ
 listing s records snapshots logs =
     runLine s ++ radioLine s ++ linkLine s
@@ -77,7 +77,8 @@ listing s records snapshots logs =
 unfoldable pub refusal : ℕ → List ℕ
 refusal n = labelled "refused " n ++ ascii "\n"
 
--- How many bytes each part of a listing has at most: a number below 2^64 and a word have so many, and the parts follow.
+-- How many bytes each part of a listing has at most: a number below 2^64 has at most 20 digits, and a word of the listing at
+-- most 10 bytes; the bounds of the lines follow.
 abbrev pub numberMost : ℕ
 numberMost = 20
 

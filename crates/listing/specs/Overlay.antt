@@ -1,4 +1,4 @@
--- Text laid over a lent buffer.
+-- Text laid over a lent buffer (rule 11.7).
 use Prim.Native.Nat.{ℕ, _+_, _^_, _≤_, _<_}
 use mathlib.Core.Path.{_≡_}
 use mathlib.Core.List.{List}
@@ -12,7 +12,8 @@ pub record Written (most : ℕ) (text before after : List ℕ) (size : ℕ) : Ty
   pub counted : size ≡ length text
   pub short : length text ≤ most
 
--- The same from the place `at` on, with the place behind the text.
+-- A text of at most `most` bytes is laid over a buffer from the place `at` on; `next` is the place behind it. Bytes that don't fit are
+-- dropped.
 pub record Laid (most : ℕ) (before : List ℕ) (at : ℕ) (text after : List ℕ) (next : ℕ) : Type 0 where
   pub contents : after ≡ sets before at text
   pub place : next ≡ at + length text

@@ -13,7 +13,7 @@ use Rattle.metrics.specs.declared.ratios.Ratio.the-variants.{None, Of, R
 unfoldable pub quotient : ℕ → ℕ → Float
 quotient part whole = Ieee.div binary64 (Ieee.ofInt binary64 (pos part)) (Ieee.ofInt binary64 (pos whole))
 
--- 11: both counts are at most 2^53
+-- question 11: both counts are at most 2^53
 abbrev pub question11 : ℕ → ℕ → Bool
 question11 part whole = leb part (2 ^ 53) && leb whole (2 ^ 53)
 

@@ -1,4 +1,4 @@
-// What a run counts, after the source's metrics.rs, and the ratios of two counts.
+// What a run counts, after ctsim's metrics.rs, and the ratios of two counts.
 pub mod ratio;
 pub mod ratios;
 pub mod summary;

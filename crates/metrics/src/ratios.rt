@@ -1,4 +1,4 @@
-// The two ratios of a run, after the source's metrics.rs.
+// The two ratios of a run, after ctsim's metrics.rs.
 use super::ratio::ratio;
 use super::summary::Summary;
 ghost use mathlib.Core.Path.{_≡_};

@@ -1,5 +1,5 @@
-// The results of a run, as the listing has them. The last two are counts of what the buffers hold:
-// records, and snapshots taken in all.
+// The summary of a run (rule 7.5). The last two are the records, and all snapshots that were taken,
+// stored or not.
 pub struct Summary {
     pub nodes: u64,
     pub rounds: u64,

@@ -1,5 +1,4 @@
--- What the inner functions of the builders promise and need, beside the rules themselves.
--- Assumes nothing.
+-- What the inner functions of the builders promise and need, beside the rules themselves (3.2, 9.2).
 use mathlib.Core.Bool.{Bool, _&&_, _||_}
 use mathlib.Core.List.{[], _∷_}
 use Prim.Native.Nat.{ℕ, _+_, _%_, _≤_, _<_}
@@ -15,11 +14,11 @@ use Rattle.network.specs.declared.topology.BuiltGraph.{BuiltGraph}
 abbrev pub askedGraph : Topology → ℕ → ℕ → ℕ → BuiltGraph
 askedGraph t n second most = graphAs t n (firstNo ((within 2 maxNodes n, 2) ∷ (leb second most, 3) ∷ []))
 
--- In rows of c, j is the node to the right of i or the one below it: how the source builds a grid.
+-- In rows of c, j is the node to the right of i or the one below it: a grid is built from these links, each in both directions.
 abbrev pub rightOrBelow : ℕ → ℕ → ℕ → Bool
 rightOrBelow c i j = eqb (i + 1) j && ltb (i % c + 1) c || eqb (i + c) j
 
--- A grid's columns and a tree's branching factor; 1 and 0 for the others.
+-- a grid's columns, and 1 for the other topologies
 abbrev pub columns : Topology → ℕ
 columns FullMesh = 1
 columns Line = 1
@@ -28,6 +27,7 @@ columns (Grid c) = c
 columns Ring = 1
 columns (Tree b) = 1
 
+-- a tree's branching factor, and 0 for the other topologies
 abbrev pub branching : Topology → ℕ
 branching FullMesh = 0
 branching Line = 0
@@ -47,7 +47,7 @@ pub record InGrid (c n i : ℕ) : Type 0 where
   pub few : n ≤ maxNodes
   pub node : i < n
 
--- And before question 3 is asked.
+-- what the builders need of a topology before question 3 is asked of its second number
 pub record Askable (t : Topology) (second most : ℕ) : Type 0 where
   pub column : 0 < columns t
   pub fits : columns t ≤ maxNodes

@@ -1,5 +1,5 @@
--- Distance, eccentricity and diameter (rules 3.4 and 3.5) of the graph whose n nodes have the given rows. A distance is a number of links, or none
--- where no path joins the two nodes.
+-- Distance, eccentricity and diameter (rules 3.4, 3.5 and 9.3) of the graph whose n nodes have the given rows. A distance is a number of
+-- links, or none where no path joins the two nodes.
 use mathlib.Core.Path.{_≡_}
 use mathlib.Core.Bool.{cond, _&&_, _||_}
 use mathlib.Core.List.{List, [], _∷_}

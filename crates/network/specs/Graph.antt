@@ -1,5 +1,5 @@
--- Rows, links and paths (rules 1.3, 3.1, 3.3 and 3.4). A set of nodes is a number: node j is in it when its binary digit j is 1. A node's row is the set of its
--- neighbours, and a graph is the list of its rows.
+-- Rows, links and paths (rules 1.3, 3.1, 3.3 and 3.4), and the row check (rule 9.2). A set of nodes is a number: node j is in it when its
+-- binary digit j is 1. A node's row is the set of its neighbours, and a graph is the list of its rows.
 use mathlib.Core.Path.{_≡_}
 use mathlib.Core.Bool.{Bool, true, false, not, cond, _&&_, _||_, Bool·beq}
 use mathlib.Core.List.{List, _++_}
@@ -46,12 +46,12 @@ pub data Path (rows : List ℕ) (a : ℕ) : ℕ → ℕ → Type 0 where
   here : Path rows a 0 a
   on : {k b c : ℕ} → Path rows a k b → linked rows b c ≡ true → Path rows a (suc k) c
 
--- Each j below n is in i exactly when i is in j.
+-- Each j below n is in row i exactly when i is in row j.
 unfoldable pub mirrored : List ℕ → ℕ → ℕ → Bool
 unfolding linked all
 mirrored rows n i = all n (λ j. Bool·beq (linked rows i j) (linked rows j i))
 
--- What question 4 asks of node i's row, for n nodes: no bit at or above n, no own bit, and j in i exactly when i in j.
+-- What question 4 asks of node i's row, for n nodes: no bit at or above n, no own bit, and j in row i exactly when i in row j.
 unfoldable pub rowRight : List ℕ → ℕ → ℕ → Bool
 unfolding linked mirrored
 rowRight rows n i = ltb (getD rows i 0) (2 ^ n) && not (linked rows i i) && mirrored rows n i
@@ -65,7 +65,7 @@ unfoldable pub backed : List ℕ → ℕ → ℕ → Bool
 unfolding linked all
 backed rows n i = all n (λ j. not (linked rows i j) || linked rows j i)
 
--- What the code asks of node i's row: of all rows together it is the same.
+-- `rowRight` with `backed` for `mirrored`, which the code asks: put to all n rows, the two agree.
 unfoldable pub rowBacked : List ℕ → ℕ → ℕ → Bool
 unfolding linked backed
 rowBacked rows n i = ltb (getD rows i 0) (2 ^ n) && not (linked rows i i) && backed rows n i

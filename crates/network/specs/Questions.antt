@@ -1,4 +1,4 @@
--- The questions that are put to a topology and to rows (rule 9.2).
+-- The questions that are put to a topology and to rows (rules 9.1 to 9.3).
 use mathlib.Core.Bool.{Bool, not, cond, _&&_, _||_}
 use mathlib.Core.List.{List, [], _∷_}
 use mathlib.Core.Option.{Option, none, some}

@@ -1,4 +1,4 @@
--- The rows of each topology (rule 3.2), and what the builders answer (rule 7.6).
+-- The rows of each topology (rule 3.2), and what the builders answer (rules 7.6, 9.2 and 9.3).
 use mathlib.Core.Bool.{Bool, not, cond, _&&_, _||_}
 use mathlib.Core.List.{List, [], _∷_, _++_}
 use mathlib.Core.Option.{Option, none, some}

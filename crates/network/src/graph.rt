@@ -3,14 +3,14 @@ ghost use mathlib.Core.Path.{_≡_};
 ghost use Prim.Native.Nat.{_-_, _^_, _≤_, _<_};
 ghost use lib.ListN.{length, getD};
 ghost use Rattle.network.specs.Graph.{has, backed, rowBacked, rowsRight, widened};
-ghost use Rattle.config.specs.Limits.{wordBits, maxNodes};
+ghost use Rattle.config.specs.Limits.{setBits, maxNodes};
 use crate::units::NodeId;
 use config::limits::MAX_NODES;
-use config::limits::WORD_BITS;
+use config::limits::SET_BITS;
 
 // Whether node j is in the set.
 pub fn has(set: u64, j: NodeId) -> bool
-    requires { ⌜ j .0 < wordBits ⌝ }
+    requires { ⌜ j .0 < setBits ⌝ }
     ensures { λ r. ⌜ r ≡ has set (j .0) ⌝ }
 {
     let at = j.0;
@@ -19,14 +19,10 @@ pub fn has(set: u64, j: NodeId) -> bool
 
 // The set of the nodes below n: a word with n ones.
 pub fn full_set(n: usize) -> u64
-    requires { ⌜ n ≤ wordBits ⌝ }
+    requires { ⌜ n ≤ setBits ⌝ }
     ensures { λ r. ⌜ r ≡ 2 ^ n - 1 ⌝ }
 {
-    if n < WORD_BITS {
-        (1 << n) - 1
-    } else {
-        u64::MAX
-    }
+    if n < SET_BITS { (1 << n) - 1 } else { u64::MAX }
 }
 
 // The first n rows as 64-bit sets; the other places are empty.

@@ -1,5 +1,5 @@
-// The three counts of the simulator, after the source's event.rs. Each is a type of its own, so
-// that none can be passed where another is meant.
+// Three of the counts of rule 1.2, after ctsim's event.rs. Each is a type of its own, so that none
+// can be passed where another is meant.
 
 // A node's number, from 0.
 pub struct NodeId(pub usize);

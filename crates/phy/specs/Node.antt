@@ -1,4 +1,4 @@
--- One node's record in a round (rules 4.1, 4.3, 4.5 and 4.8; the source's node.rs).
+-- One node's record in a round (rules 4.1, 4.3, 4.5, 4.8 and 4.10).
 use Prim.Native.Nat.{ℕ, _+_, _-_}
 use mathlib.Core.Bool.{Bool, true, false, cond}
 use lib.Dec.{eqb}

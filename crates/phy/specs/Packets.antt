@@ -1,4 +1,4 @@
--- Two packets are equal when all their fields are.
+-- Two packets are equal when all their fields are (rule 5.3).
 use Prim.Native.Nat.{ℕ}
 use mathlib.Core.Bool.{Bool, false, _&&_}
 use lib.Dec.{eqb}

@@ -8,6 +8,7 @@ use Rattle.network.specs.Graph.{setOf}
 use Rattle.phy.specs.declared.node.Node.{Node}
 use Rattle.phy.specs.declared.packet.Packet.{Packet}
 use Rattle.config.specs.declared.RoundSlots.{RoundSlots}
+use Rattle.config.specs.Limits.{leastLength}
 use Rattle.phy.specs.Packets.{holds}
 use Rattle.phy.specs.Node.{begunBy, deliveredTo, isFlooding, isSleeping}
 use Rattle.phy.specs.Slot.{Setup, Standing, at, howMany, slotStep}
@@ -15,13 +16,13 @@ use Rattle.phy.specs.Slot.{Setup, Standing, at, howMany, slotStep}
 -- the length limit: `round_slots`, else max(3, (d + 2) times repeats)
 abbrev pub lengthLimit : RoundSlots → ℕ → ℕ → ℕ
 lengthLimit (RoundSlots.Of slots) d repeats = slots
-lengthLimit RoundSlots.Absent d repeats = max 3 ((d + 2) * repeats)
+lengthLimit RoundSlots.Absent d repeats = max leastLength ((d + 2) * repeats)
 
 -- All nodes listen, the initiator floods with its repeats and holds the packet.
 unfoldable pub begun : ℕ → ℕ → ℕ → Packet → List Node → List Node
 begun n repeats initiator packet nodes = tabulate n (λ (j : ℕ). begunBy (eqb j initiator) packet repeats (at nodes j))
 
--- In each slot before the limit; the round ends after a slot that leaves nobody flooding.
+-- At most `left` slots; none follows one that leaves no node flooding.
 unfoldable pub slots : Setup → ℕ → Standing → Standing
 slots g zero s = s
 slots g (suc left) s =

@@ -24,7 +24,7 @@ use Rattle.phy.specs.Limits.{slotAttempts, mostSlots}
 use Rattle.phy.specs.Node.{total, isListening, isFlooding}
 use Rattle.phy.specs.Slot.{Setup, Tries, Shots, Standing, at, sumOf, receivers, attemptAll, takeWhile, slotStep}
 use Rattle.phy.specs.Snapshots.{snapshotsWith}
-use Rattle.phy.specs.Round.{slots as slotsOf, round}
+use Rattle.phy.specs.Round.{slots as roundSlots, round}
 
 -- ---- the lent tables
 -- what a round is lent: the queue of the flooding nodes, the stream of the draws, and the buffer of the snapshots
@@ -171,7 +171,7 @@ pub record Slotted (g : Settings) (rows : List ℕ) (limit : ℕ) (x : Flood) (t
   pub source : (heard : ℕ → Bool) → Source (g .rate) heard (x .attempts) (t .stream) → Source (g .rate) heard (r .attempts) (t' .stream)
   pub stands : (heard : ℕ → Bool) → Source (g .rate) heard (x .attempts) (t .stream)
       → (b₀ : List ℕ) (s : Standing) → InSlot g 0 x t b₀ s
-      → Stands (g .nodes) r b₀ (t' .snapshots) (slotsOf (asSetup g rows heard) limit s)
+      → Stands (g .nodes) r b₀ (t' .snapshots) (roundSlots (asSetup g rows heard) limit s)
 
 -- ---- a round
 -- all nodes listen but the initiator

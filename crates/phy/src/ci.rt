@@ -1,4 +1,4 @@
-// One flood by constructive interference, after the source's phy/ci.rs. It goes the same way whatever its
+// One flood by constructive interference, after ctsim's phy/ci.rs. It goes the same way whatever its
 // packet says, so no packet is handed in; that the covered nodes are those that took part is a law of the
 // run.
 use super::slot::Flood;
@@ -6,6 +6,7 @@ use super::slot::QUEUE_SIZE;
 use super::slot::Settings;
 use super::slot::slot;
 use config::RoundSlots;
+use config::limits::LEAST_LENGTH;
 use config::limits::MAX_NODES;
 use network::graph::full_set;
 use network::units::NodeId;
@@ -14,7 +15,7 @@ ghost use mathlib.Core.Path.{_≡_};
 ghost use mathlib.Core.Bool.{not, _||_};
 ghost use Prim.Native.Nat.{_+_, _≤_, _<_};
 ghost use lib.Dec.{eqb};
-ghost use Rattle.config.specs.Limits.{wordBits, maxNodes, maxRepeats};
+ghost use Rattle.config.specs.Limits.{setBits, maxNodes, maxRepeats};
 ghost use Rattle.network.specs.Graph.{has, setOf};
 ghost use Rattle.phy.specs.Limits.{queueSize, mostSlots};
 ghost use Rattle.phy.specs.Round.{lengthLimit};
@@ -23,14 +24,18 @@ ghost use Rattle.phy.specs.View.{CanBegin, Begins, Emptied, CanFlood, Ro
 
 // How many slots a round has at most.
 pub fn length_limit(round_slots: RoundSlots, diameter: u64, repeats: u64) -> u64
-    requires { ⌜ (diameter ≤ wordBits) × (repeats ≤ maxRepeats) ⌝ }
+    requires { ⌜ (diameter ≤ setBits) × (repeats ≤ maxRepeats) ⌝ }
     ensures { λ r. ⌜ r ≡ lengthLimit «round_slots» diameter repeats ⌝ }
 {
     match round_slots {
         RoundSlots::Of(slots) => slots,
         RoundSlots::Absent => {
             let floods = (diameter + 2) * repeats;
-            if floods < 3 { 3 } else { floods }
+            if floods < LEAST_LENGTH {
+                LEAST_LENGTH
+            } else {
+                floods
+            }
         }
     }
 }

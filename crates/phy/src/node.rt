@@ -1,4 +1,4 @@
-// A node's radio, after the source's node.rs: what it does in a round, the packet it holds, and how
+// A node's radio, after ctsim's node.rs: what it does in a round, the packet it holds, and how
 // many slots it has spent in each state.
 use super::packet::Packet;
 ghost use mathlib.Core.Path.{_≡_};

@@ -12,7 +12,7 @@ ghost use mathlib.Core.Path.{_≡_};
 ghost use mathlib.Core.List.{[], _∷_};
 ghost use Prim.Native.Nat.{_+_, _*_, _^_, _≤_, _<_};
 ghost use lib.Count.{ones};
-ghost use Rattle.config.specs.Limits.{wordBits};
+ghost use Rattle.config.specs.Limits.{setBits};
 ghost use Rattle.network.specs.Graph.{has as hasNode};
 ghost use Rattle.phy.specs.Limits.{queueSize, mostSlots};
 ghost use Rattle.phy.specs.Slot.{among};
@@ -61,7 +61,7 @@ pub struct Flood {
 
 // One attempt at node j.
 fn attempt(j: NodeId, rate: f64, stream: &mut [u32; STREAM_SIZE], t: Tried) -> Tried
-    requires { ⌜ (j .0 < wordBits) × (t .attempts + 1 < 2 ^ 64) × (t .successes + 1 < 2 ^ 64) ⌝ }
+    requires { ⌜ (j .0 < setBits) × (t .attempts + 1 < 2 ^ 64) × (t .successes + 1 < 2 ^ 64) ⌝ }
     ensures { λ r. ⌜ TriedOn rate 1 (j .0 ∷ []) t (now (stream .entry)) r (now (stream .exit)) ⌝ }
 {
     let at = j.0;
@@ -81,8 +81,8 @@ fn attempt(j: NodeId, rate: f64, stream: &mut [u32; STREAM_SIZE], t: Tried) -> T
 
 // One attempt at each node of a set, ascending.
 fn attempts_at(set: u64, rate: f64, stream: &mut [u32; STREAM_SIZE], t: Tried) -> Tried
-    requires { ⌜ (t .attempts + wordBits < 2 ^ 64) × (t .successes + wordBits < 2 ^ 64) ⌝ }
-    ensures { λ r. ⌜ TriedOn rate wordBits (among wordBits (hasNode «set»)) t (now (stream .entry)) r (now (stream .exit)) ⌝ }
+    requires { ⌜ (t .attempts + setBits < 2 ^ 64) × (t .successes + setBits < 2 ^ 64) ⌝ }
+    ensures { λ r. ⌜ TriedOn rate setBits (among setBits (hasNode «set»)) t (now (stream .entry)) r (now (stream .exit)) ⌝ }
 {
     let mut tried = t;
     let mut rest = set;
@@ -105,7 +105,7 @@ fn attempts(
     t: Tried,
 ) -> Tried
     requires { ⌜ CanTry n listening flooding t ⌝ }
-    ensures { λ r. ⌜ TriedOn rate (wordBits * n) (receiversOf (now (rows .entry)) n flooding listening) t (now (stream .entry)) r (now (stream .exit)) ⌝ }
+    ensures { λ r. ⌜ TriedOn rate (setBits * n) (receiversOf (now (rows .entry)) n flooding listening) t (now (stream .entry)) r (now (stream .exit)) ⌝ }
 {
     if listening == 0 {
         return t;

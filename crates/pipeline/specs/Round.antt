@@ -1,4 +1,4 @@
--- `prepare_round` and `process_round` over all nodes (rules 6.3, 6.4, 6.7 and 6.8).
+-- `prepare_round` and `process_round` over all nodes (rules 6.3 to 6.5, 6.7 and 6.8).
 use Prim.Native.Nat.{ℕ, zero, suc, _+_, _%_, min}
 use mathlib.Core.Bool.{Bool, true, false, cond, _||_}
 use mathlib.Core.List.{List, [], _∷_, _++_}
@@ -106,7 +106,7 @@ turns packet slot part (suc m) s =
     let before : Shared = turns packet slot part m s in
     elim (has part m) [ true ↦ takeTurn packet slot m before | false ↦ before ]
 
--- `process_round`: the old piggyback is cleared before the first node
+-- the old piggyback is cleared before the first node's turn
 abbrev pub cleared : Shared → Shared
 cleared s =
     record {
@@ -119,10 +119,11 @@ cleared s =
       piggybacks = s .piggybacks;
     }
 
+-- `process_round`: every node that took part has its turn, in the nodes' order
 unfoldable pub processRound : ℕ → Packet → ℕ → ℕ → Shared → Shared
 processRound n packet slot part s = turns packet slot part n (cleared s)
 
--- the shortest log of the first n nodes
+-- the length of the shortest log of the first n nodes, or `shortest` if that is less
 unfoldable pub shortestFrom : ℕ → List State → ℕ → ℕ
 shortestFrom shortest states zero = shortest
 shortestFrom shortest states (suc m) = min (shortestFrom shortest states m) (length (stateOf states m .log))

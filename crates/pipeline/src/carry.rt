@@ -1,4 +1,4 @@
-// What the rounds of a run carry, after the source's sim/pipeline.rs.
+// What the rounds of a run carry, after ctsim's sim/pipeline.rs.
 use super::records::Recorded;
 use config::limits::MAX_NODES;
 use phy::packet::Piggyback;

@@ -1,4 +1,4 @@
-// The nodes' part of a round, after the source's sim/paxos_pipeline.rs.
+// The nodes' part of a round, after ctsim's sim/paxos_pipeline.rs.
 use super::carry::Carry;
 use super::records::HISTORY_SIZE;
 use super::records::record_all;
@@ -126,7 +126,7 @@ fn take_turn(
     recovered(y, recovery)
 }
 
-// The same with no piggyback.
+// What the rounds carry, with no piggyback.
 fn cleared(x: Carry) -> Carry
     ensures { λ r. ⌜ r ≡ withoutPiggyback x ⌝ }
 {

@@ -27,7 +27,7 @@ lineText l =
     outcomeText
     (runOfTopology (l .topology) (l .first) (l .second) (configOf l) (replicate logSize 0) (replicate recordsSize 0) (replicate listedSize 0))
 
--- 12: is the line readable?
+-- question 12: is the line readable?
 abbrev pub readText : Read → List ℕ
 readText (Read·Line l) = lineText l
 readText Unreadable = refusal 12

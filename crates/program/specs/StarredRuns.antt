@@ -79,7 +79,8 @@ pub record StarredRuns : Type 0 where
   pub newly : newlyUpTo 3 (pendingTwo .log) ≡ 0 ∷ 1 ∷ 2 ∷ 3 ∷ []
   -- gap below 5: 4
   pub gap : detectGap 5 (commitUpTo 3 pendingTwo) ≡ Gap.At (record { 0 = 4 })
-  -- star 4, r 1, P 0: one round, 2 slots, 3 listen, 4 flood, 1 sleep, end 1; for every seed, interval and slot limit of at least 1
+  -- star 4, r 1, P 0, loss rate 0, round slots absent: one round, 2 slots, 3 listen, 4 flood, 1 sleep, end 1; for every seed, and every
+  -- interval and slot limit of at least 1
   pub star : (seed interval limit : ℕ) → 1 ≤ interval → 1 ≤ limit →
       StarRun (runOfTopology 3 4 0 (idleConfig seed interval limit) (replicate logSize 0) (replicate recordsSize 0) (replicate listedSize 0) .answer)
   -- limit 0: no round, end 4; for every run of rows or of a topology that is not refused

@@ -5,7 +5,7 @@ use mathlib.Core.List.{List, [], _∷_, _++_}
 use mathlib.Core.Logic.{_⊎_}
 use mathlib.Core.Option.{Option, none, some}
 use mathlib.Core.Path.{_≡_}
-use Rattle.config.specs.Limits.{wordBits}
+use Rattle.config.specs.Limits.{setBits}
 use Rattle.phy.specs.declared.packet.Data.{Data}
 use Rattle.phy.specs.declared.packet.LastAccepted.{LastAccepted}
 use Rattle.phy.specs.declared.packet.Piggyback.{Piggyback}
@@ -25,7 +25,7 @@ Rises (LastAccepted.At u) (LastAccepted.At v) = u .0 ≤ v .0
 
 -- each node that is in a is in b
 abbrev pub Subset : ℕ → ℕ → Type 0
-Subset a b = (i : ℕ) → i < wordBits → a / 2 ^ i % 2 ≤ b / 2 ^ i % 2
+Subset a b = (i : ℕ) → i < setBits → a / 2 ^ i % 2 ≤ b / 2 ^ i % 2
 
 -- t is pending in s with the data of p and with all its votes, or it is logged and pending no more
 abbrev pub StaysPending : ℕ → Pending → State → Type 0

@@ -1,4 +1,4 @@
--- A node's Paxos state and what is done with it, (rules 5.1 to 5.8). A term is its number.
+-- A node's Paxos state and what is done with it (rules 5.1, 5.2 and 5.4 to 5.8). A term is its number.
 -- A set of nodes is a number: bit i, which is `s / 2 ^ i % 2`, says whether node i is in it.
 use Prim.Native.Nat.{ℕ, zero, suc, _+_, _-_, _*_, _/_, _%_, _^_, max}
 use mathlib.Core.Bool.{Bool, true, false, cond, _||_}
@@ -6,7 +6,7 @@ use mathlib.Core.List.{List, [], _∷_, _++_}
 use mathlib.Core.Option.{Option, none, some}
 use lib.Dec.{leb, eqb}
 use lib.Count.{onesIn}
-use Rattle.config.specs.Limits.{wordBits}
+use Rattle.config.specs.Limits.{setBits}
 use Rattle.phy.specs.declared.packet.Data.{Data}
 use Rattle.phy.specs.declared.packet.LastAccepted.{LastAccepted}
 use Rattle.phy.specs.declared.packet.Nack.{Nack}
@@ -33,7 +33,7 @@ pub record State : Type 0 where
 abbrev pub empty : State
 empty = record { log = []; pending = λ t. none; last = LastAccepted.None }
 
--- ---- sets of nodes, as words
+-- ---- sets of nodes, as numbers
 
 -- the union, of the lowest k bits
 unfoldable pub unionIn : ℕ → ℕ → ℕ → ℕ
@@ -42,12 +42,12 @@ unionIn (suc k) a b = unionIn k (a / 2) (b / 2) * 2 + max (a % 2) (b % 2)
 
 unfoldable pub union : ℕ → ℕ → ℕ
 unfolding unionIn
-union a b = unionIn wordBits a b
+union a b = unionIn setBits a b
 
 -- how many nodes are in a set
 unfoldable pub size : ℕ → ℕ
 unfolding onesIn
-size a = onesIn wordBits a
+size a = onesIn setBits a
 
 -- the set of node i alone
 abbrev pub vote : ℕ → ℕ
@@ -84,7 +84,7 @@ hold t v d s =
       last = s .last;
     }
 
--- the same where t is neither logged nor pending; else nothing changes
+-- t becomes pending, with the votes v and the data d, unless it is logged or pending already
 unfoldable pub holdNew : ℕ → ℕ → Data → State → State
 holdNew t v d s = cond (held t s) s (hold t v d s)
 
@@ -101,7 +101,7 @@ unfoldable pub mergeVotesUpTo : ℕ → ℕ → State → State
 mergeVotesUpTo u f s =
     record { log = s .log; pending = λ t. voted (leb t u) f (s .pending t); last = s .last }
 
--- `check_quorum`: a majority of n nodes voted for a pending term
+-- a majority of n nodes voted for a pending term
 abbrev pub quorum : ℕ → Option Pending → Bool
 quorum n none = false
 quorum n (some p) = leb (majority n) (size (p .votes))

@@ -82,7 +82,7 @@ unfoldable pub initiatorTurn : ℕ → ℕ → ℕ → Bool → Piggyback → St
 initiatorTurn i n c b pb s =
     announce i n (currentTerm b c) (nack (detectGap c s)) (proposalData b c) pb (propose b i c s)
 
--- ---- a participant's turn, in the source's order. i is the node, p the packet that it holds.
+-- ---- a participant's turn, in the order of rule 5.10. i is the node, p the packet that it holds.
 
 pub record Taken : Type 0 where
   pub state : State

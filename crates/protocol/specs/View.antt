@@ -1,4 +1,5 @@
--- The state that a node's numbers stand for, and what holds of them between the turns. They stand as Layout.antt says, from a place `at` on.
+-- The state that a node's numbers stand for, and what holds of them between the turns. They stand as Layout.antt says, from a place `at`
+-- on.
 use Prim.Native.Nat.{ℕ, zero, suc, _+_, _<_, _≤_}
 use mathlib.Core.Bool.{Bool, true, false, cond}
 use mathlib.Core.List.{List, [], _∷_}
@@ -7,7 +8,7 @@ use mathlib.Core.Path.{_≡_}
 use lib.Count.{ones}
 use lib.Dec.{ltb}
 use lib.ListN.{length, getD}
-use Rattle.config.specs.Limits.{wordBits, maxTerms}
+use Rattle.config.specs.Limits.{setBits, maxTerms}
 use Rattle.network.specs.Graph.{has}
 use Rattle.random.specs.Table.{tabulate}
 use Rattle.phy.specs.declared.packet.Data.{Data}
@@ -160,7 +161,7 @@ pub record Announces (at : ℕ) (f : State → Initiated) (b : List ℕ) (r : An
 pub record MayInitiate (i n c : ℕ) (p : Bool) (b : List ℕ) (at : ℕ) : Type 0 where
   pub kept : Kept c b at
   pub few : counted p c ≤ maxTerms
-  pub node : i < wordBits
+  pub node : i < setBits
   pub nodes : 2 ≤ n
 
 -- The initiator's turn is that of the definitions, and the counter is then `counted p c`. The packet's terms are below it if that of the

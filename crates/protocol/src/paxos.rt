@@ -1,4 +1,4 @@
-// What is done with a node's Paxos state, after the source's protocol/paxos.rs: numbers of a lent
+// What is done with a node's Paxos state, after ctsim's protocol/paxos.rs: numbers of a lent
 // slice, from the place `at` on, as state.rt says.
 use crate::bits::joined;
 use crate::bits::up_to;
@@ -25,7 +25,7 @@ ghost use mathlib.Core.Bool.{false, not, _&&_, _||_};
 ghost use Prim.Native.Nat.{_+_, _≤_, _<_, max};
 ghost use lib.Dec.{eqb, leb, ltb};
 ghost use lib.ListN.{length};
-ghost use Rattle.config.specs.Limits.{wordBits, maxTerms};
+ghost use Rattle.config.specs.Limits.{setBits, maxTerms};
 ghost use Rattle.network.specs.Graph.{has, all};
 ghost use Rattle.phy.specs.declared.packet.LastAccepted.{LastAccepted};
 ghost use Rattle.protocol.specs.Layout.{nodeSize};
@@ -74,7 +74,7 @@ fn is_majority(votes: u64, n: usize) -> bool
     n / 2 + 1 <= k
 }
 
-// Whether a term with these votes is pending and has a quorum. The node's own vote alone is none, and
+// Whether a term with these votes is pending and has a quorum. The node's own vote alone is no quorum, and
 // is passed over before anything else is looked at.
 fn is_quorum(votes: u64, own: u64, pending: u64, t: usize, n: usize) -> bool
     requires { ⌜ (t < maxTerms) × (leb (majority n) (size own) ≡ false) ⌝ }
@@ -103,9 +103,9 @@ fn others_voted(states: &[u64], at: usize, own: u64, first: usize, end: usize) -
 }
 
 // The greatest pending term that has a quorum, or none, of a node among two or more: from the highest
-// pending term down to the lowest, in a plain loop. The node's own votes alone are none.
+// pending term down to the lowest, in a plain loop. The node's own votes alone are no quorum.
 pub fn greatest_quorum(states: &[u64], at: usize, node: NodeId, n: usize) -> LastAccepted
-    requires { ⌜ Kept maxTerms (now states) at × (node .0 < wordBits) × (2 ≤ n) ⌝ }
+    requires { ⌜ Kept maxTerms (now states) at × (node .0 < setBits) × (2 ≤ n) ⌝ }
     ensures { λ r. ⌜ r ≡ greatestQuorum maxTerms n (view (now (states .entry)) at) ⌝ }
 {
     let pending = pending_set(states, at);
@@ -150,7 +150,7 @@ fn commit_term(states: &mut [u64], at: usize, term: Term)
     }
 }
 
-// Commits all terms up to and including `up_to`; answers the set of those newly committed.
+// Commits all terms up to and including `last`; answers the set of those newly committed.
 pub fn commit_up_to(states: &mut [u64], at: usize, last: Term) -> u64
     requires { ⌜ Kept maxTerms (now states) at × (last .0 < maxTerms) ⌝ }
     ensures { λ r. ⌜ Commits (LastAccepted.At last) at (now (states .entry)) (now (states .exit)) r ⌝ }
@@ -206,7 +206,7 @@ pub fn hold(states: &mut [u64], at: usize, term: Term, votes: u64, d: Data)
     states[at + PENDING_PLACE] = pending_set(states, at) | (1u64 << t);
 }
 
-// The same where the term may be held already, and then nothing is changed.
+// A term becomes pending, with these votes and data, unless it is logged or pending already.
 pub fn hold_new(states: &mut [u64], at: usize, term: Term, votes: u64, d: Data)
     requires { ⌜ Kept maxTerms (now states) at × termBelow maxTerms (term .0) d ⌝ }
     ensures { λ _. ⌜ Step (λ c. term .0 < c) at (holdNew (term .0) votes d) (now (states .entry)) (now (states .exit)) ⌝ }

@@ -1,4 +1,4 @@
-// A node's turns, after what the source's sim/paxos_pipeline.rs does with one node: `prepare_round`
+// A node's turns, after what ctsim's sim/paxos_pipeline.rs does with one node: `prepare_round`
 // with the initiator, `process_round` with each node that took part.
 use crate::bits::joined;
 use crate::paxos::Gap;
@@ -19,7 +19,7 @@ use phy::packet::Packet;
 use phy::packet::Piggyback;
 ghost use mathlib.Core.Path.{_≡_};
 ghost use Prim.Native.Nat.{_-_, _<_, _≤_};
-ghost use Rattle.config.specs.Limits.{wordBits, maxTerms};
+ghost use Rattle.config.specs.Limits.{setBits, maxTerms};
 ghost use Rattle.protocol.specs.Paxos.{vote};
 ghost use Rattle.protocol.specs.Turns.{nack, counted, currentTerm, proposalData, propose, announce, takeData, takePiggyback};
 ghost use Rattle.protocol.specs.View.{Kept, Step, Reaches, TermsBelow, MayInitiate, proposalBelow, backBelow, Announces, Initiates, Takes};
@@ -39,7 +39,7 @@ pub struct Received {
 
 // The set of one node alone.
 fn vote_of(node: NodeId) -> u64
-    requires { ⌜ node .0 < wordBits ⌝ }
+    requires { ⌜ node .0 < setBits ⌝ }
     ensures { λ r. ⌜ r ≡ vote (node .0) ⌝ }
 {
     1u64 << node.0
@@ -79,7 +79,7 @@ fn announce(
     data: Data,
     piggyback: Piggyback,
 ) -> Announced
-    requires { ⌜ Kept maxTerms (now states) at × (node .0 < wordBits) × (2 ≤ n) ⌝ }
+    requires { ⌜ Kept maxTerms (now states) at × (node .0 < setBits) × (2 ≤ n) ⌝ }
     ensures { λ r. ⌜ Announces at (announce (node .0) n (current .0) nack «data» piggyback) (now (states .entry)) r (now (states .exit)) ⌝ }
 {
     let newly = commit_to(states, at, greatest_quorum(states, at, node, n));
@@ -117,7 +117,7 @@ fn proposal_data(counter: u64, proposes: bool) -> Data
 
 // A new proposal, if one is made, becomes pending with the node's own vote.
 fn propose(states: &mut [u64], at: usize, node: NodeId, counter: u64, proposes: bool)
-    requires { ⌜ Kept counter (now states) at × (counted proposes counter ≤ maxTerms) × (node .0 < wordBits) ⌝ }
+    requires { ⌜ Kept counter (now states) at × (counted proposes counter ≤ maxTerms) × (node .0 < setBits) ⌝ }
     ensures { λ _. ⌜ Reaches (counted proposes counter) at (propose proposes (node .0) counter) (now (states .entry)) (now (states .exit)) ⌝ }
 {
     if proposes {
@@ -172,7 +172,7 @@ fn take_piggyback(states: &mut [u64], at: usize, votes: u64, piggyback: Piggybac
 // A participant's turn: what a node does with the packet that it holds after the flood. The flags
 // and then the own vote are merged in one pass, as their union.
 pub fn participant_turn(states: &mut [u64], at: usize, node: NodeId, packet: Packet) -> Received
-    requires { ⌜ Kept maxTerms (now states) at × TermsBelow maxTerms packet × (node .0 < wordBits) ⌝ }
+    requires { ⌜ Kept maxTerms (now states) at × TermsBelow maxTerms packet × (node .0 < setBits) ⌝ }
     ensures { λ r. ⌜ Takes at (node .0) packet (now (states .entry)) r (now (states .exit)) ⌝ }
 {
     let current = packet.current_term;

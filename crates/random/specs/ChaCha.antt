@@ -7,7 +7,7 @@ use Rattle.random.specs.Table.{tabulate}
 use Rattle.random.specs.Word.{plus, rotateLeft}
 use Rattle.random.specs.declared.chacha.Quad.{Quad}
 
--- 2.1: a += b; d ^= a; d <<<= 16;  c += d; b ^= c; b <<<= 12;  a += b; d ^= a; d <<<= 8;  c += d; b ^= c; b <<<= 7
+-- RFC 8439, 2.1: a += b; d ^= a; d <<<= 16;  c += d; b ^= c; b <<<= 12;  a += b; d ^= a; d <<<= 8;  c += d; b ^= c; b <<<= 7
 unfoldable pub quarter : Quad → Quad
 quarter q =
     let a₁ = plus (q .a) (q .b) in
@@ -27,33 +27,33 @@ pub record Places (x y z w : ℕ) : Type 0 where
   pub c : z < 16
   pub d : w < 16
 
--- 2.2: QUARTERROUND(x, y, z, w) on the words of a state at these places
+-- RFC 8439, 2.2: QUARTERROUND(x, y, z, w) on the words of a state at these places
 unfoldable pub quarterAt : List ℕ → ℕ → ℕ → ℕ → ℕ → List ℕ
 quarterAt s x y z w =
     let q = quarter (record { a = getD s x 0; b = getD s y 0; c = getD s z 0; d = getD s w 0 }) in
     set (set (set (set s x (q .a)) y (q .b)) z (q .c)) w (q .d)
 
--- 2.3: the four quarter rounds on columns, and the four on diagonals
+-- RFC 8439, 2.3: the four quarter rounds on columns, and the four on diagonals
 unfoldable pub columnRound : List ℕ → List ℕ
 columnRound s = quarterAt (quarterAt (quarterAt (quarterAt s 0 4 8 12) 1 5 9 13) 2 6 10 14) 3 7 11 15
 
 unfoldable pub diagonalRound : List ℕ → List ℕ
 diagonalRound s = quarterAt (quarterAt (quarterAt (quarterAt s 0 5 10 15) 1 6 11 12) 2 7 8 13) 3 4 9 14
 
--- 2.3: double rounds, RFC 8439's inner_block, that many times: ten there, four here
+-- RFC 8439, 2.3: double rounds, RFC 8439's inner_block, that many times: ten there, four here
 unfoldable pub rounds : ℕ → List ℕ → List ℕ
 rounds zero s = s
 rounds (suc k) s = diagonalRound (columnRound (rounds k s))
 
--- 2.3: the state starts as the four constants, the eight words of the key, and four words for counter and nonce
+-- RFC 8439, 2.3: the state starts as the four constants, the eight words of the key, and four words for counter and nonce
 unfoldable pub start : List ℕ → List ℕ → List ℕ
 start key last = (0x61707865 ∷ 0x3320646e ∷ 0x79622d32 ∷ 0x6b206574 ∷ []) ++ (key ++ last)
 
--- 2.3: the words of two states added
+-- RFC 8439, 2.3: the words of two states added
 unfoldable pub sums : List ℕ → List ℕ → List ℕ
 sums a b = tabulate 16 (λ (i : ℕ). plus (getD a i 0) (getD b i 0))
 
--- 2.3: the block: the state after the rounds, added to the state that it started from
+-- RFC 8439, 2.3: the block: the state after the rounds, added to the state that it started from
 unfoldable pub block : ℕ → List ℕ → List ℕ → List ℕ
 block doubleRounds key last = sums (rounds doubleRounds (start key last)) (start key last)
 

@@ -1,4 +1,4 @@
--- Operations on words of 32 bits.
+-- Operations on words of 32 bits (rules 2.1 and 2.2).
 use Prim.Native.Nat.{ℕ, _+_, _-_, _*_, _/_, _%_, _^_}
 
 -- a + b on words (RFC 8439, section 2.1)

@@ -14,7 +14,9 @@ const DOUBLE_ROUNDS: u32 = 4;
 // The stream of a seed's draws: the key, then the block in hand.
 const KEY_SIZE: usize = 8;
 
-pub const STREAM_SIZE: usize = 24;
+const BLOCK_SIZE: usize = 16;
+
+pub const STREAM_SIZE: usize = KEY_SIZE + BLOCK_SIZE;
 
 // The stream's block of that number: a 64-bit counter, low word first, and two zero words.
 fn stream_block(key: [u32; 8], counter: u64) -> [u32; 16]

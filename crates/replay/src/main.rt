@@ -1,8 +1,8 @@
 // Answers every line of its input as the Rust source does. The first 71 lines put each question
-// on both sides of its boundary; the others were chosen among those of `oracle/`'s
-// program `inputs` (small, random and broken), so that each end, lossy runs, NACKs, piggybacks,
-// graphs given by rows and refusals are among them. `stdout` is what `oracle/`'s program `answer`
-// prints for `stdin`.
+// on both sides of its boundary; the next 664 were chosen among those of `oracle/`'s program
+// `inputs` (small, random and broken), so that each end, lossy runs, NACKs, piggybacks, graphs given
+// by rows and refusals are among them; the last three are at edges that those miss. `stdout` is what
+// `oracle/`'s program `answer` prints for `stdin`.
 use config::limits::LISTED_SIZE;
 use config::limits::LOG_SIZE;
 use config::limits::MAX_NODES;

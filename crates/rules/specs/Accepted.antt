@@ -1,4 +1,4 @@
--- What the questions leave of a run.
+-- What is known of a run once no question of rule 9.2 has refused it.
 use Prim.Native.Nat.{ℕ, _≤_, _<_}
 use mathlib.Core.Path.{_≡_}
 use mathlib.Core.Bool.{true}
@@ -16,7 +16,8 @@ pub record Drawn (graph : List ℕ) (n d : ℕ) : Type 0 where
   pub few : n ≤ maxNodes
   pub measured : d ≡ diameter graph n
 
--- the run of such a graph, with a configuration that questions 5 to 9 let pass
+-- the run of such a graph, whose diameter is then below 32, with numbers that questions 5, 6, 8 and 9 let pass; of the loss rate,
+-- question 7, nothing is needed
 pub record Accepted (g : Given) : Type 0 where
   pub checked : Checked (g .rows) (g .nodes)
   pub two : 2 ≤ g .nodes

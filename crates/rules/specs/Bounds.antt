@@ -49,7 +49,7 @@ pub record Bounds (g : Given) (s : Summary) : Type 0 where
   -- so all counts fit in 40 bits, even their sum
   pub small : together s < 2 ^ 40
 
--- for a run of rows and of a topology
+-- the summary of every accepted run, of rows or of a topology, keeps the bounds
 abbrev pub AllBounded : Type 0
 AllBounded =
     (q : Asked) (c : Config) (logs records snapshots : List ℕ) (s : Summary) →

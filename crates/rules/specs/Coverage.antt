@@ -1,6 +1,6 @@
--- In every round the covered nodes are those that took part (rule 4.12). Covered is a node whose held packet equals the round's, also one kept from
--- an earlier round; but a packet names its sender, and between two rounds of one sender every other node starts a round and holds its own
--- packet from then on.
+-- In every round the covered nodes are those that took part (rules 4.12 and 12.5). Covered is a node whose held packet equals the round's,
+-- also one kept from an earlier round; but a packet names its sender, and between two rounds of one sender every other node starts a round
+-- and holds its own packet from then on.
 use Prim.Native.Nat.{ℕ, _<_}
 use mathlib.Core.List.{List}
 use mathlib.Core.Option.{some}
@@ -29,7 +29,7 @@ heldFrom n k j (Payload.Of q) = KeptFrom n k j q
 abbrev pub HeldPackets : ℕ → ℕ → List Node → Type 0
 HeldPackets n k nodes = (j : ℕ) → j < n → heldFrom n k j (at nodes j .payload)
 
--- in every round of every run, whatever its outcomes
+-- in every round of every run, whatever its outcomes, the number of covered nodes is the number of those that took part
 abbrev pub CoveredTookPart : Type 0
 CoveredTookPart =
     (g : Given) (k : ℕ) (p : Past) →

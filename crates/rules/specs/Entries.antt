@@ -1,4 +1,4 @@
--- What an entry answers, and the final contents of the lent buffers (rules 7.1 to 7.5 and 9.1).
+-- What an entry answers, and the final contents of the lent buffers (rules 1.4, 2.6, 7.1 to 7.5, 9.1 and 9.3).
 use Prim.Native.Nat.{ℕ, zero, suc, _+_, _*_}
 use mathlib.Core.List.{List, [], _∷_, map}
 use mathlib.Core.Option.{Option, none, some}
@@ -82,7 +82,7 @@ ranWith g logs records snapshots =
       snapshots = snapshotsWith snapshots (e .running .standing .shots .taken);
     }
 
--- the run of a graph of n nodes with this diameter, where an attempt's outcome is that of its draw
+-- the run of a graph of n nodes with this diameter, where the outcome of an attempt is that of rule 2.6
 abbrev pub givenAs : List ℕ → ℕ → ℕ → Config → Given
 givenAs graph n d c =
     record {

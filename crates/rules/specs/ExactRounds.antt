@@ -1,5 +1,5 @@
--- Demand 3 (rules 12.3 and 12.4): what an accepted run is in which no reception is lost. P are the proposals, n the nodes, d the diameter and r the repeats;
--- e is the greatest distance from the node that starts a round.
+-- Demand 3 (rules 12.3 and 12.4): what an accepted run is in which no attempt is lost. P are the proposals, n the nodes, d the diameter
+-- and r the repeats; e is the greatest distance from the node that starts a round.
 use Prim.Native.Nat.{ℕ, zero, suc, _+_, _-_, _*_, _/_, _≤_, _<_}
 use mathlib.Core.List.{List}
 use mathlib.Core.Option.{some}
@@ -38,11 +38,11 @@ farthest g k = eccentricity (g .rows) (g .nodes) (initiatorOf (g .nodes) k)
 abbrev pub slotsIn : Given → ℕ → ℕ
 slotsIn g k = farthest g k + g .repeats
 
--- its first slot: the summed length of the rounds before it
+-- the first slot of round k: the summed length of the rounds before it
 abbrev pub firstSlot : Given → ℕ → ℕ
 firstSlot g k = sum k (slotsIn g)
 
--- P + floor(n/2)
+-- how many rounds: P + floor(n/2)
 abbrev pub roundsOf : Given → ℕ
 roundsOf g = g .proposals + g .nodes / 2
 
@@ -52,7 +52,7 @@ roundsOf g = g .proposals + g .nodes / 2
 abbrev pub Grew : (Node → ℕ) → Past → ℕ → ℕ → Type 0
 Grew f p j m = f (at (p .flooded .after .nodes) j) ≡ f (at (p .before .nodes) j) + m
 
--- Round k lasts e + r slots, and a node at distance D from its initiator listens D, floods r and sleeps e - D of them.
+-- Round k lasts e + r slots, and a node at distance x from its initiator listens x, floods r and sleeps e - x of them.
 pub record ExactRound (g : Given) (k : ℕ) (p : Past) : Type 0 where
   pub initiator : p .initiator ≡ initiatorOf (g .nodes) k
   pub length : lengthOf p ≡ farthest g k + g .repeats

@@ -1,4 +1,5 @@
--- When the attempts of an accepted run equal its successes: exactly when none of them was lost; so at a loss rate of 0 or minus 0.
+-- When the attempts of an accepted run equal its successes, which demand 3 takes for granted (rule 12.3): exactly when none of them was
+-- lost; so at a loss rate of 0 or minus 0.
 use Prim.Native.Nat.{ℕ, _<_}
 use mathlib.Core.Bool.{true}
 use mathlib.Core.List.{List}
@@ -18,7 +19,7 @@ EqualWhenHeard =
     outcomeFor q c logs records snapshots .answer ≡ Ran s →
     (s .attempts ≡ s .successes) ↔ ((k : ℕ) → k < s .attempts → givenFor q c .heard k ≡ true)
 
--- so they are equal where the loss rate is 0 or minus 0
+-- attempts and successes of an accepted run are equal where the loss rate is 0 or minus 0
 abbrev pub EqualAtRate0 : Type 0
 EqualAtRate0 =
     (q : Asked) (c : Config) (logs records snapshots : List ℕ) (s : Summary) →
@@ -26,7 +27,7 @@ EqualAtRate0 =
     lossless (c .«loss_rate») ≡ true →
     s .attempts ≡ s .successes
 
--- and demand 3 then holds of every suited configuration
+-- what demand 3 concludes holds of every accepted run at a loss rate of 0 or minus 0 whose configuration is suited
 abbrev pub ExactAtRate0 : Type 0
 ExactAtRate0 =
     (q : Asked) (c : Config) (logs records snapshots : List ℕ) (s : Summary) →

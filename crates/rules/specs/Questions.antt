@@ -12,16 +12,16 @@ use Rattle.network.specs.Questions.{within, firstNo, rowsQuestions, topologyQue
 use Rattle.config.specs.declared.RoundSlots.{RoundSlots}
 use Rattle.config.specs.declared.Config.{Config}
 
--- 6: `round_slots` absent or 0 to 4,096
+-- question 6: `round_slots` absent or 0 to 4,096
 abbrev pub slotsAllowed : RoundSlots → Bool
 slotsAllowed RoundSlots.Absent = true
 slotsAllowed (RoundSlots.Of slots) = leb slots maxRoundSlots
 
--- 7: loss rate at least 0 and below 1; a NaN is neither, and minus zero passes
+-- question 7: loss rate at least 0 and below 1; a NaN is neither, and minus zero passes
 unfoldable pub rateAllowed : Float → Bool
 rateAllowed rate = Ieee.le (fin false 0 (pos 0)) rate && Ieee.lt rate (fin false 1 (pos 0))
 
--- 5 to 9, of the configuration
+-- questions 5 to 9, of the configuration
 abbrev pub configQuestions : Config → List (Bool × ℕ)
 configQuestions c =
     (within 1 maxRepeats (c .«flood_repeats»), 5)
@@ -31,11 +31,11 @@ configQuestions c =
     ∷ (leb 1 (c .«snapshot_interval»), 9)
     ∷ []
 
--- 10, for log and record buffers of these lengths
+-- question 10, for log and record buffers of these lengths
 abbrev pub bufferQuestions : ℕ → ℕ → List (Bool × ℕ)
 bufferQuestions logs records = (leb logSize logs && leb recordsSize records, 10) ∷ []
 
--- 5 to 10
+-- questions 5 to 10
 abbrev pub runQuestions : Config → ℕ → ℕ → List (Bool × ℕ)
 runQuestions c logs records = configQuestions c ++ bufferQuestions logs records
 

@@ -1,10 +1,10 @@
--- The rounds, the four ends and the run (rules 6.1 to 6.10).
+-- The rounds, the four ends and the run (rules 6.1, 6.2, 6.5, 6.6, 6.9 and 6.10).
 use Prim.Native.Nat.{ℕ, zero, suc, _+_, _-_, _*_}
 use mathlib.Core.Bool.{Bool, true, false, cond, _&&_}
 use mathlib.Core.List.{List, [], _∷_, _++_}
 use lib.Dec.{leb, ltb, eqb}
 use lib.ListN.{length, replicate}
-use Rattle.config.specs.Limits.{extraRounds, mostRounds}
+use Rattle.config.specs.Limits.{roundsPerLink, extraRounds, mostRounds}
 use Rattle.network.specs.Graph.{all}
 use Rattle.phy.specs.declared.packet.Packet.{Packet}
 use Rattle.phy.specs.declared.packet.Piggyback.{Piggyback}
@@ -61,11 +61,11 @@ abbrev pub setupOf : Given → Shared → Setup
 setupOf g s =
     record { rows = g .rows; nodes = g .nodes; repeats = g .repeats; interval = g .interval; progress = shortestLog (s .states) (g .nodes); heard = g .heard }
 
--- Round k as its initiator has prepared it,
+-- round k as its initiator has prepared it
 abbrev pub preparedIn : Given → ℕ → Running → Prepared
 preparedIn g k r = prepareRound (g .nodes) (g .proposals) (initiatorOf (g .nodes) k) (r .standing .slot) (r .shared)
 
--- and as it was flooded.
+-- the flood of round k
 abbrev pub floodedIn : Given → ℕ → Running → Flooded
 floodedIn g k r =
     round (setupOf g (r .shared)) (lengthLimit (g .roundSlots) (g .diameter) (g .repeats)) (initiatorOf (g .nodes) k)
@@ -87,12 +87,12 @@ runRound g k r =
 unfoldable pub complete : ℕ → ℕ → List State → Bool
 complete n proposals states = all n (λ (j : ℕ). all proposals (λ (t : ℕ). logged t (stateOf states j .log)))
 
--- The ends after round k, tested in order: 1 all logs complete; 2 all P recorded and round index above P + 5d; 3 index above P + 1,000.
+-- The ends after round k, tested in order: 1 all logs complete; 2 all P recorded and the round's index above P + 5d; 3 index above P + 1,000.
 -- 0 is none of these.
 unfoldable pub endAfter : Given → ℕ → Running → ℕ
 endAfter g k r =
     cond (complete (g .nodes) (g .proposals) (r .shared .states)) 1
-    (cond (eqb (length (r .shared .records)) (g .proposals) && ltb (g .proposals + 5 * g .diameter) k) 2
+    (cond (eqb (length (r .shared .records)) (g .proposals) && ltb (g .proposals + roundsPerLink * g .diameter) k) 2
     (cond (ltb (g .proposals + extraRounds) k) 3 0))
 
 pub record Ended : Type 0 where
@@ -116,6 +116,6 @@ roundsFrom g (suc most) k r =
 unfoldable pub runFor : Given → ℕ → Ended
 runFor g most = roundsFrom g most 0 (begin g)
 
--- The run. By index P + 1,001 an end has come, so that many rounds are enough.
+-- The run. By index P + 1,001 an end has come, so P + 1,002 rounds are enough.
 abbrev pub run : Given → Ended
 run g = runFor g (mostRounds (g .proposals))

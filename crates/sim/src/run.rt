@@ -3,6 +3,7 @@ use super::survey::survey;
 use config::Config;
 use config::limits::EXTRA_ROUNDS;
 use config::limits::MAX_NODES;
+use config::limits::ROUNDS_PER_LINK;
 use network::graph::full_set;
 use network::units::NodeId;
 use network::units::Slot;
@@ -24,7 +25,7 @@ ghost use mathlib.Core.Path.{_≡_};
 ghost use mathlib.Core.Bool.{cond, _&&_};
 ghost use lib.Dec.{eqb, ltb};
 ghost use Prim.Native.Nat.{_+_, _*_, _≤_};
-ghost use Rattle.config.specs.Limits.{maxNodes, maxTerms, maxRepeats, extraRounds};
+ghost use Rattle.config.specs.Limits.{maxNodes, maxTerms, maxRepeats, roundsPerLink, extraRounds};
 ghost use Rattle.sim.specs.Going.{settingsOf, workspace, CanPlay, Plays, CanStart, CanGo, Goes, Stops, NewFlood, NewRun};
 
 // What a run is given beside the rows of its graph.
@@ -167,9 +168,9 @@ fn run_round(
 fn end_after(proposals: u64, diameter: u64, complete: bool, records: u64, k: u64) -> u64
     requires { ⌜ (proposals ≤ maxTerms) × (diameter ≤ maxNodes) ⌝ }
     ensures { λ r. ⌜ r ≡ cond complete 1
-        (cond (eqb records proposals && ltb (proposals + 5 * diameter) k) 2 (cond (ltb (proposals + extraRounds) k) 3 0)) ⌝ }
+        (cond (eqb records proposals && ltb (proposals + roundsPerLink * diameter) k) 2 (cond (ltb (proposals + extraRounds) k) 3 0)) ⌝ }
 {
-    let recorded = (records == proposals) & (proposals + 5 * diameter < k);
+    let recorded = (records == proposals) & (proposals + ROUNDS_PER_LINK * diameter < k);
     if complete {
         return 1;
     }

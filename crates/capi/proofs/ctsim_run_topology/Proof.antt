@@ -28,7 +28,12 @@ same-length-4 : tie.Need-same-length-4
 same-length-4 c = search needs
 
 returns-2 : tie.Need-returns-2
-returns-2 c = topology-returned _ _ _ _ _ _ _ _ (c .before .before .before .before .before .before .before .before .before .before .before .before .before .before .before .if1 .left) _ _ _ _ _ _ _ (c .before .before .write-answer .ensures) (c .before .before .before .before .before .before .before .before .before .before .before .before .before .before .config-from .ensures) (c .before .before .before .before .before .before .before .before .before .before .run-topology .ensures)
+returns-2 c =
+    let written = c .before .before in
+    let ran = written .before .before .before .before .before .before .before .before in
+    let configured = ran .before .before .before .before in
+    topology-returned _ _ _ _ _ _ _ _ (configured .before .if1 .left) _ _ _ _ _ _ _ (written .write-answer .ensures) (configured .config-from .ensures)
+    (ran .run-topology .ensures)
 
 pub ctsim-run-topology-spec : {M : Type 1} → statement M
 ctsim-run-topology-spec =

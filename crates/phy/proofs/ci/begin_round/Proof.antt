@@ -5,7 +5,7 @@ use borrow.Author.Needs.{needs}
 use denote.Ref.{now}
 use lib.ListN.{set}
 use lib.Pow.{pow-lt}
-use Rattle.config.specs.Limits.{wordBits}
+use Rattle.config.specs.Limits.{setBits}
 use Rattle.network.proofs.Sets.{one-shl}
 use Rattle.phy.proofs.ci.begin_round.Statement.{statement}
 use Rattle.phy.proofs.ci.begin_round.Tie as tie
@@ -32,15 +32,15 @@ sub-y : tie.Need-sub-y
 sub-y c =
     let start = c .before .before in
     let first = start .args .initiator .0 in
-    subst⁻¹ (λ (own : ℕ). own ≤ c .full-set .result) (one-shl wordBits first (omega (arith, start .pre .few, start .pre .node))) (omega (arith, c .full-set .ensures, pow-lt (start .pre .node)))
+    subst⁻¹ (λ (own : ℕ). own ≤ c .full-set .result) (one-shl setBits first (omega (arith, start .pre .few, start .pre .node))) (omega (arith, c .full-set .ensures, pow-lt (start .pre .node)))
 
 returns : tie.Need-returns
 returns c =
     let start = c .before .before in
     let x = start .args .x in
     let first = start .args .initiator .0 in
-    let small : first < wordBits = omega (arith, start .pre .few, start .pre .node) in
-    let own = one-shl wordBits first small in
+    let small : first < setBits = omega (arith, start .pre .few, start .pre .node) in
+    let own = one-shl setBits first small in
     let whole = c .full-set .ensures in
     record {
       flood = λ i.

@@ -3,7 +3,7 @@ use mathlib.Core.Path.{_≡_, sym, ap, _∙_}
 use mathlib.Core.Bool.{Bool, true, false}
 use native.Mathlib.Omega.{arith}
 use borrow.Author.Needs.{needs}
-use Rattle.config.specs.Limits.{wordBits}
+use Rattle.config.specs.Limits.{setBits}
 use Rattle.phy.specs.Slot.{attemptBy, attempt, attemptAll}
 use Rattle.phy.specs.View.{triesOf}
 use Rattle.phy.proofs.Masks.{or-shifted-bit}
@@ -32,7 +32,7 @@ returns c =
       successes = omega arith;
       tried = λ heard s.
           let heard-it : heard (a .t .attempts) ≡ true = sym (received .received heard s) ∙ c .before .before .before .if1 .taken in
-          (λ i. record { attempts = a .t .attempts + 1; successes = a .t .successes + 1; reached = or-shifted-bit wordBits {s = a .t .reached} {j = a .j .0} (omega arith) (omega arith) i })
+          (λ i. record { attempts = a .t .attempts + 1; successes = a .t .successes + 1; reached = or-shifted-bit setBits {s = a .t .reached} {j = a .j .0} (omega arith) (omega arith) i })
           ∙ ap (λ (b : Bool). attemptBy b (triesOf (a .t)) (a .j .0)) (sym heard-it);
       source = received .next;
     }

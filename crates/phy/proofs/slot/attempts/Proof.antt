@@ -5,7 +5,7 @@ use mathlib.Core.List.{List, _++_}
 use native.Mathlib.Omega.{arith}
 use denote.Ref.{now}
 use lib.Count.{trailingZeros}
-use Rattle.config.specs.Limits.{wordBits}
+use Rattle.config.specs.Limits.{setBits}
 use Rattle.network.specs.Graph.{has, linked}
 use Rattle.network.proofs.Lowest.{Walked, Next, walked-none, walked-all, walked-next, nonzero}
 use Rattle.network.proofs.Sets.{has-below}
@@ -18,16 +18,16 @@ use Rattle.phy.proofs.slot.attempts.Tie as tie
 
 abbrev Inv-loop : tie.InvT-loop
 Inv-loop rows n listening flooding rate stream₀ tried₀ rest₀ stream tried rest =
-    (m : ℕ) × Walked flooding rest m × (m ≤ n) × TriedOn rate (wordBits * m) (receivers rows (has flooding) (has listening) n m) tried₀ stream₀ tried stream
+    (m : ℕ) × Walked flooding rest m × (m ≤ n) × TriedOn rate (setBits * m) (receivers rows (has flooding) (has listening) n m) tried₀ stream₀ tried stream
 
 abbrev μ-loop : tie.MeasureT-loop
 μ-loop rows n listening flooding rate stream₀ tried₀ rest₀ stream tried rest = rest
 
-next : (c : tie.In-loop Inv-loop μ-loop) → Next wordBits (c .before .before .before .args .flooding) (c .before .loop .rest) (c .before .loop .inv .0) (trailingZeros wordBits (c .before .loop .rest))
-next c = walked-next wordBits (omega (arith, c .before .loop .inv .1 .part)) (c .loop-test .taken) (c .before .loop .inv .1)
+next : (c : tie.In-loop Inv-loop μ-loop) → Next setBits (c .before .before .before .args .flooding) (c .before .loop .rest) (c .before .loop .inv .0) (trailingZeros setBits (c .before .loop .rest))
+next c = walked-next setBits (omega (arith, c .before .loop .inv .1 .part)) (c .loop-test .taken) (c .before .loop .inv .1)
 
 -- it is one of the n nodes
-node : (c : tie.In-loop Inv-loop μ-loop) → trailingZeros wordBits (c .before .loop .rest) < c .before .before .before .args .n
+node : (c : tie.In-loop Inv-loop μ-loop) → trailingZeros setBits (c .before .loop .rest) < c .before .before .before .args .n
 node c = has-below (c .before .before .before .pre .flooders) _ (next c .is)
 
 returns : tie.Need-returns Inv-loop μ-loop
@@ -70,13 +70,13 @@ loop-again c =
     let l = c .before .before .before .before .loop in
     let start = c .before .before .before .before .before .before in
     let a = start .args in
-    let t = trailingZeros wordBits (l .rest) in
+    let t = trailingZeros setBits (l .rest) in
     let list = receivers (now (a .rows)) (has (a .flooding)) (has (a .listening)) (a .n) in (
       t + 1,
       n .onward,
       omega (arith, node (c .before .before .before)),
       tried-as (omega (arith, n .from))
-          (ap (λ (x : List ℕ). list (l .inv .0) ++ x) (receivers-of (now (a .rows)) t (a .n) wordBits (a .listening) (omega (arith, start .pre .few)) (start .pre .listeners))
+          (ap (λ (x : List ℕ). list (l .inv .0) ++ x) (receivers-of (now (a .rows)) t (a .n) setBits (a .listening) (omega (arith, start .pre .few)) (start .pre .listeners))
           ∙ ap (λ (x : List ℕ). x ++ among (a .n) (λ (j : ℕ). linked (now (a .rows)) t j && has (a .listening) j)) (sym (receivers-skip (now (a .rows)) (has (a .flooding)) (has (a .listening)) (a .n) (l .inv .0) t (n .from) (n .none)))
           ∙ receivers-more (now (a .rows)) (has (a .flooding)) (has (a .listening)) (a .n) t true (n .is))
           (tried-then (l .inv .3) (c .attempts-at .ensures)),

@@ -4,7 +4,7 @@ use mathlib.Core.Bool.{true}
 use mathlib.Core.List.{List, [], _∷_, _++_}
 use native.Mathlib.Omega.{arith}
 use lib.Count.{trailingZeros}
-use Rattle.config.specs.Limits.{wordBits}
+use Rattle.config.specs.Limits.{setBits}
 use Rattle.network.specs.Graph.{has}
 use Rattle.network.proofs.Lowest.{Walked, Next, walked-none, walked-all, walked-next, nonzero}
 use Rattle.phy.specs.Slot.{among}
@@ -14,13 +14,13 @@ use Rattle.phy.proofs.slot.attempts_at.Statement.{statement}
 use Rattle.phy.proofs.slot.attempts_at.Tie as tie
 
 abbrev Inv-loop : tie.InvT-loop
-Inv-loop set rate stream₀ tried₀ rest₀ stream tried rest = (m : ℕ) × Walked set rest m × (m ≤ wordBits) × TriedOn rate m (among m (has set)) tried₀ stream₀ tried stream
+Inv-loop set rate stream₀ tried₀ rest₀ stream tried rest = (m : ℕ) × Walked set rest m × (m ≤ setBits) × TriedOn rate m (among m (has set)) tried₀ stream₀ tried stream
 
 abbrev μ-loop : tie.MeasureT-loop
 μ-loop set rate stream₀ tried₀ rest₀ stream tried rest = rest
 
-next : (c : tie.In-loop Inv-loop μ-loop) → Next wordBits (c .before .before .args .set) (c .before .loop .rest) (c .before .loop .inv .0) (trailingZeros wordBits (c .before .loop .rest))
-next c = walked-next wordBits (omega (arith, c .before .loop .inv .1 .part)) (c .loop-test .taken) (c .before .loop .inv .1)
+next : (c : tie.In-loop Inv-loop μ-loop) → Next setBits (c .before .before .args .set) (c .before .loop .rest) (c .before .loop .inv .0) (trailingZeros setBits (c .before .loop .rest))
+next c = walked-next setBits (omega (arith, c .before .loop .inv .1 .part)) (c .loop-test .taken) (c .before .loop .inv .1)
 
 loop-holds : tie.Need-loop-holds Inv-loop μ-loop
 unfolding among
@@ -47,7 +47,7 @@ loop-again c =
     let n = next (c .before .before) in
     let l = c .before .before .before .loop in
     let f = has (c .before .before .before .before .args .set) in
-    let t = trailingZeros wordBits (l .rest) in (
+    let t = trailingZeros setBits (l .rest) in (
       t + 1,
       n .onward,
       omega (arith, n .within),
@@ -61,7 +61,7 @@ returns c =
     let l = c .before .loop in
     let set = c .before .before .args .set in
     let all = subst⁻¹ (λ (x : ℕ). Walked set x (l .inv .0)) (sym (c .loop-test .left)) (l .inv .1) in
-    tried-as (l .inv .2) (sym (among-skip (l .inv .0) wordBits (has set) (l .inv .2) (λ i u v. walked-all all i u))) (l .inv .3)
+    tried-as (l .inv .2) (sym (among-skip (l .inv .0) setBits (has set) (l .inv .2) (λ i u v. walked-all all i u))) (l .inv .3)
 
 pub attempts-at-spec : {M : Type 1} → statement M
 attempts-at-spec =
