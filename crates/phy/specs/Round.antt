@@ -47,9 +47,11 @@ pub record Flooded : Type 0 where
   pub part : ℕ
   pub covered : ℕ
 
+-- the same place in the run, with other node records
 abbrev pub withNodes : List Node → Standing → Standing
 withNodes nodes s = record { nodes = nodes; attempts = s .attempts; successes = s .successes; slot = s .slot; shots = s .shots }
 
+-- One round: begin, slots up to the length limit, end; who took part, and how many nodes are covered.
 unfoldable pub round : Setup → ℕ → ℕ → Packet → Standing → Flooded
 round g limit initiator packet s =
     let ended : Standing = slots g limit (withNodes (begun (g .nodes) (g .repeats) initiator packet (s .nodes)) s) in

@@ -63,9 +63,11 @@ abbrev pub attemptBy : Bool → Tries → ℕ → Tries
 attemptBy true t j = record { attempts = t .attempts + 1; successes = t .successes + 1; reached = insert j (t .reached) }
 attemptBy false t j = record { attempts = t .attempts + 1; successes = t .successes; reached = t .reached }
 
+-- one attempt, to node j; its outcome goes by its number among the run's attempts
 unfoldable pub attempt : (ℕ → Bool) → Tries → ℕ → Tries
 attempt heard t j = attemptBy (heard (t .attempts)) t j
 
+-- attempts to these nodes, one after the other
 unfoldable pub attemptAll : (ℕ → Bool) → Tries → List ℕ → Tries
 attemptAll heard t [] = t
 attemptAll heard t (j ∷ js) = attemptAll heard (attempt heard t j) js

@@ -76,6 +76,7 @@ prepareRound n proposals i slot s =
       packet = turn .packet;
     }
 
+-- a new piggyback takes the place of the old one
 abbrev pub latest : Piggyback → Piggyback → Piggyback
 latest Piggyback.None old = old
 latest (Piggyback.Of t d) old = Piggyback.Of t d
@@ -123,10 +124,11 @@ cleared s =
 unfoldable pub processRound : ℕ → Packet → ℕ → ℕ → Shared → Shared
 processRound n packet slot part s = turns packet slot part n (cleared s)
 
--- the length of the shortest log of the first n nodes, or `shortest` if that is less
+-- the least of `shortest` and the lengths of the first m logs
 unfoldable pub shortestFrom : ℕ → List State → ℕ → ℕ
 shortestFrom shortest states zero = shortest
 shortestFrom shortest states (suc m) = min (shortestFrom shortest states m) (length (stateOf states m .log))
 
+-- the length of the shortest log of n nodes, which is the progress that a snapshot shows
 abbrev pub shortestLog : List State → ℕ → ℕ
 shortestLog states n = shortestFrom (length (stateOf states 0 .log)) states n

@@ -1,4 +1,4 @@
--- The printed run (sections 10 and 11): what the program writes for what it reads.
+-- What the program writes for what it reads (rules 9.3, 10.1 and 11.2).
 use Prim.Native.Nat.{ℕ}
 use mathlib.Core.List.{List}
 use lib.ListN.{replicate}
@@ -32,5 +32,6 @@ abbrev pub readText : Read → List ℕ
 readText (Read·Line l) = lineText l
 readText Unreadable = refusal 12
 
+-- the answer to these bytes of input
 unfoldable pub printed : List ℕ → List ℕ
 printed input = readText (readLine input)

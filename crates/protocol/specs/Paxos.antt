@@ -184,6 +184,7 @@ detectGap c s = gapIn (c - after (s .last)) (after (s .last)) s
 
 -- ---- recovery
 
+-- the data of t in a log, or none
 unfoldable pub find : ℕ → List Entry → Option Data
 find t [] = none
 find t (e ∷ l) = cond (eqb t (e .term)) (some (e .payload)) (find t l)
@@ -194,6 +195,7 @@ dataIn (some d) p = some d
 dataIn none none = none
 dataIn none (some p) = some (p .payload)
 
+-- a piggyback of t, or none if its data is not there
 abbrev pub reply : ℕ → Option Data → Piggyback
 reply t none = Piggyback.None
 reply t (some d) = Piggyback.Of (record { 0 = t }) d

@@ -25,12 +25,12 @@ draw seed k = streamWord seed (2 * k) + streamWord seed (2 * k + 1) * 2 ^ 32
 abbrev pub streamSize : ℕ
 streamSize = keySize + blockSize
 
--- It holds the key of the seed,
+-- A stream holds the key of the seed.
 pub record Keyed (seed : ℕ) (w : List ℕ) : Type 0 where
   pub size : length w ≡ streamSize
   pub words : (i : ℕ) → i < keySize → getD w i 0 ≡ getD (keyOf seed) i 0
 
--- and a block of its key stream.
+-- A stream holds block b of the seed, behind the key.
 abbrev pub Holds : ℕ → ℕ → List ℕ → Type 0
 Holds seed b w = (i : ℕ) → i < blockSize → getD w (keySize + i) 0 ≡ getD (streamBlock (keyOf seed) b) i 0
 

@@ -9,7 +9,7 @@ use Rattle.random.specs.Word.{rotateRight}
 unfoldable pub nextState : ℕ → ℕ
 nextState s = (s * 6364136223846793005 + 11634580027462260723) % 2 ^ 64
 
--- and gives the low 32 bits of ((s >> 18) xor s) >> 27, rotated right within 32 bits by s >> 59
+-- The state s gives the key word: the low 32 bits of ((s >> 18) xor s) >> 27, rotated right within 32 bits by s >> 59
 unfoldable pub keyWord : ℕ → ℕ
 keyWord s = rotateRight (bitXor (s / 2 ^ 18) s / 2 ^ 27 % 2 ^ 32) (s / 2 ^ 59)
 

@@ -9,6 +9,7 @@ use Rattle.rules.specs.declared.questions.Refusal.{Refusal}
 use Rattle.rules.specs.declared.questions.Refusal.the-variants.{None, Number}
 use Rattle.rules.specs.Entries.{Outcome}
 
+-- a refusal's number, or none
 abbrev pub refusalOf : Refusal → Option ℕ
 refusalOf None = none
 refusalOf (Number k) = some k

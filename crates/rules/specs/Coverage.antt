@@ -26,6 +26,7 @@ abbrev pub heldFrom : ℕ → ℕ → ℕ → Payload → Type 0
 heldFrom n k j Payload.None = Unit {0}
 heldFrom n k j (Payload.Of q) = KeptFrom n k j q
 
+-- what all n nodes may hold after k rounds
 abbrev pub HeldPackets : ℕ → ℕ → List Node → Type 0
 HeldPackets n k nodes = (j : ℕ) → j < n → heldFrom n k j (at nodes j .payload)
 

@@ -95,6 +95,7 @@ endAfter g k r =
     (cond (eqb (length (r .shared .records)) (g .proposals) && ltb (g .proposals + roundsPerLink * g .diameter) k) 2
     (cond (ltb (g .proposals + extraRounds) k) 3 0))
 
+-- a run that is over, and the number of its end
 pub record Ended : Type 0 where
   pub running : Running
   pub ended : ℕ

@@ -9,7 +9,7 @@ use Rattle.network.specs.Distance.{diameter}
 use Rattle.network.specs.Questions.{firstNo, rowsQuestions}
 use Rattle.rules.specs.Accepted.{Drawn}
 use Rattle.rules.specs.Questions.{runQuestions}
-use Rattle.rules.specs.Entries.{givenAs, outcomeOf}
+use Rattle.rules.specs.Entries.{Outcome, givenAs, outcomeOf}
 use Rattle.rules.proofs.FirstNo.{row-facts}
 use Rattle.rules.proofs.Outcomes.{measured-refused, measured-links, rows-refused, rows-drawn, rows-passed}
 use Rattle.sim.proofs.entries.run_rows.Statement.{statement}
@@ -50,10 +50,10 @@ returns-2 c =
     let a = start (m .before .before) .args in
     let l = links m in
     let d = m .measured2 .given .0 .0 in
-    c .before .before .before .before .before .before .run-graph .ensures
-    ∙ ap (λ (g : List ℕ). outcomeOf (firstNo (runQuestions (a .config) (length (now (a .logs))) (length (now (a .records))))) (givenAs g (a .n) d (a .config)) (now (a .logs)) (now (a .records)) (now (a .snapshots)))
-    (c .before .before .before .before .before .before .before .before .before .before .before .widen .ensures)
-    ∙ rows-passed (now (a .rows)) (a .n) (a .config) (now (a .logs)) (now (a .records)) (now (a .snapshots)) d (l .0) (l .1)
+    let w = c .before .before .before .before .before .before .before .before .before .before .before in
+    let over : List ℕ → Outcome = λ g. outcomeOf (firstNo (runQuestions (a .config) (length (now (a .logs))) (length (now (a .records))))) (givenAs g (a .n) d (a .config)) (now (a .logs)) (now (a .records)) (now (a .snapshots)) in
+    _∙_ {b = over (w .widen .result)} (c .before .before .before .before .before .before .run-graph .ensures)
+    (ap over (w .widen .ensures) ∙ rows-passed (now (a .rows)) (a .n) (a .config) (now (a .logs)) (now (a .records)) (now (a .snapshots)) d (l .0) (l .1))
 
 pub run-rows-spec : {M : Type 1} → statement M
 run-rows-spec =
