@@ -23,7 +23,7 @@ use Rattle.phy.specs.declared.packet.Packet.{Packet}
 use Rattle.phy.specs.declared.packet.Piggyback.{Piggyback}
 use Rattle.phy.proofs.Attempts.{among-cong, among-skip}
 use Rattle.protocol.specs.Layout.{firstOf}
-use Rattle.protocol.specs.Paxos.{Entry, State, empty, logged, quorum, greatestQuorum, newlyBelow, newlyTo, termSet}
+use Rattle.protocol.specs.Paxos.{LogEntry, State, empty, logged, quorum, greatestQuorum, newlyBelow, newlyTo, termSet}
 use Rattle.protocol.specs.Turns.{counted, propose, announce, initiatorTurn, participantTurn}
 use Rattle.protocol.specs.View.{view, loggedSet, entryAt, logOf, Kept, Wrote, lastBelow, backBelow}
 use Rattle.protocol.proofs.Frame.{Same, wrote-same, wrote-same-before, frame-view, frame-kept}
@@ -109,7 +109,7 @@ greatest-below (suc k) n s = go (greatest-below k n s) (quorum n (s .pending k))
     go h false = last-mono (greatestQuorum k n s) (omega arith) h
 
 -- each number below k that is not logged
-newly-is : (k : ℕ) (l : List Entry) → newlyBelow k l ≡ among k (λ (t : ℕ). not (logged t l))
+newly-is : (k : ℕ) (l : List LogEntry) → newlyBelow k l ≡ among k (λ (t : ℕ). not (logged t l))
 unfolding newlyBelow among
 newly-is zero l = refl
 newly-is (suc k) l = ap₂ (λ (x : List ℕ) (y : List ℕ). x ++ y) (newly-is k l) (go (logged k l))
@@ -119,7 +119,7 @@ newly-is (suc k) l = ap₂ (λ (x : List ℕ) (y : List ℕ). x ++ y) (newly-is 
     go false = refl
 
 -- the set of the terms below k that are newly committed has just those
-newly-has : (k t : ℕ) (l : List Entry) → has (termSet (newlyBelow k l)) t ≡ (ltb t k && not (logged t l))
+newly-has : (k t : ℕ) (l : List LogEntry) → has (termSet (newlyBelow k l)) t ≡ (ltb t k && not (logged t l))
 unfolding has
 newly-has k t l = ap (λ (x : ℕ). eqb x 1) (newly-bit k t l) ∙ go (ltb t k) (logged t l)
   where
@@ -129,13 +129,13 @@ newly-has k t l = ap (λ (x : ℕ). eqb x 1) (newly-bit k t l) ∙ go (ltb t k) 
     go false b = refl
 
 -- so the list is the set's
-newly-list : (k : ℕ) (l : List Entry) → k ≤ maxTerms → among maxTerms (has (termSet (newlyBelow k l))) ≡ newlyBelow k l
+newly-list : (k : ℕ) (l : List LogEntry) → k ≤ maxTerms → among maxTerms (has (termSet (newlyBelow k l))) ≡ newlyBelow k l
 newly-list k l h =
     among-skip k maxTerms (has (termSet (newlyBelow k l))) h (λ i b _. newly-has k i l ∙ ap (λ (x : Bool). x && not (logged i l)) (le-ltb i k b))
     ∙ among-cong k (has (termSet (newlyBelow k l))) (λ (t : ℕ). not (logged t l)) (λ t b. newly-has k t l ∙ ap (λ (x : Bool). x && not (logged t l)) (lt-ltb t k b))
     ∙ sym (newly-is k l)
 
-pub newly-among : (last : LastAccepted) (l : List Entry) → lastBelow maxTerms last → among maxTerms (has (termSet (newlyTo last l))) ≡ newlyTo last l
+pub newly-among : (last : LastAccepted) (l : List LogEntry) → lastBelow maxTerms last → among maxTerms (has (termSet (newlyTo last l))) ≡ newlyTo last l
 unfolding newlyTo newlyBelow
 newly-among LastAccepted.None l h = newly-list 0 l (omega arith)
 newly-among (LastAccepted.At u) l h = newly-list (suc (u .0)) l h

@@ -13,7 +13,7 @@ use lib.Dec.{eqb, ltb}
 use lib.Pow.{pow-mono}
 use Rattle.phy.specs.declared.packet.LastAccepted.{LastAccepted}
 use Rattle.protocol.specs.declared.paxos.Gap.{Gap}
-use Rattle.protocol.specs.Paxos.{Entry, Pending, State, logged, held, updated, entry, raise, quorum, greatestQuorum, commitTerm, commitBelow, newlyBelow, termSet, after, gapIn, detectGap}
+use Rattle.protocol.specs.Paxos.{LogEntry, Pending, State, logged, held, updated, logEntry, raise, quorum, greatestQuorum, commitTerm, commitBelow, newlyBelow, termSet, after, gapIn, detectGap}
 use Rattle.protocol.proofs.Places.{either}
 use Rattle.protocol.proofs.Sets.{add-high, low-bit, own-bit}
 use Rattle.protocol.proofs.Logs.{logged-append}
@@ -24,7 +24,7 @@ pub commit-next : (k : ℕ) (x : State) → commitBelow (k + 1) x ≡ commitTerm
 unfolding commitBelow
 commit-next k x = rw add-one
 
-pub newly-next : (k : ℕ) (l : List Entry) → newlyBelow (k + 1) l ≡ newlyBelow k l ++ cond (logged k l) [] (k ∷ [])
+pub newly-next : (k : ℕ) (l : List LogEntry) → newlyBelow (k + 1) l ≡ newlyBelow k l ++ cond (logged k l) [] (k ∷ [])
 unfolding newlyBelow
 newly-next k l = rw add-one
 
@@ -33,14 +33,14 @@ unfolding termSet
 set-append [] t = omega arith
 set-append (x ∷ l) t = omega (arith, set-append l t)
 
-pub newly-more : (k : ℕ) (l : List Entry) → logged k l ≡ false → termSet (newlyBelow (k + 1) l) ≡ termSet (newlyBelow k l) + 2 ^ k
+pub newly-more : (k : ℕ) (l : List LogEntry) → logged k l ≡ false → termSet (newlyBelow (k + 1) l) ≡ termSet (newlyBelow k l) + 2 ^ k
 newly-more k l e = rw (newly-next k l, e) (set-append (newlyBelow k l) k)
 
-pub newly-same : (k : ℕ) (l : List Entry) → logged k l ≡ true → newlyBelow (k + 1) l ≡ newlyBelow k l
+pub newly-same : (k : ℕ) (l : List LogEntry) → logged k l ≡ true → newlyBelow (k + 1) l ≡ newlyBelow k l
 newly-same k l e = rw (newly-next k l, e) (append-nil (newlyBelow k l))
 
 -- a set of terms below k is below 2 ^ k
-pub newly-lt : (k : ℕ) (l : List Entry) → termSet (newlyBelow k l) < 2 ^ k
+pub newly-lt : (k : ℕ) (l : List LogEntry) → termSet (newlyBelow k l) < 2 ^ k
 unfolding newlyBelow termSet
 newly-lt zero l = omega arith
 newly-lt (suc k) l = go (newly-lt k l) (logged k l)
@@ -51,7 +51,7 @@ newly-lt (suc k) l = go (newly-lt k l) (logged k l)
 
 -- ---- what a commit leaves alone
 
-pub one-logged : (j t : ℕ) (p : Option Pending) → eqb j t ≡ false → logged j (entry t p) ≡ false
+pub one-logged : (j t : ℕ) (p : Option Pending) → eqb j t ≡ false → logged j (logEntry t p) ≡ false
 unfolding logged
 one-logged j t none e = refl
 one-logged j t (some p) e = rw e
@@ -61,9 +61,9 @@ pub term-other : (j t : ℕ) (x : State) → eqb j t ≡ false → logged j (com
 unfolding commitTerm
 term-other j t x e = go (logged t (x .log))
   where
-    go : (b : Bool) → logged j (cond b x (record { log = x .log ++ entry t (x .pending t); pending = updated t none (x .pending); last = raise t (x .last) }) .log) ≡ logged j (x .log)
+    go : (b : Bool) → logged j (cond b x (record { log = x .log ++ logEntry t (x .pending t); pending = updated t none (x .pending); last = raise t (x .last) }) .log) ≡ logged j (x .log)
     go true = refl
-    go false = logged-append j (x .log) (entry t (x .pending t)) ∙ ap (λ (b : Bool). logged j (x .log) || b) (one-logged j t (x .pending t) e) ∙ or-false (logged j (x .log))
+    go false = logged-append j (x .log) (logEntry t (x .pending t)) ∙ ap (λ (b : Bool). logged j (x .log) || b) (one-logged j t (x .pending t) e) ∙ or-false (logged j (x .log))
 
 pub below-other : (k j : ℕ) (x : State) → k ≤ j → logged j (commitBelow k x .log) ≡ logged j (x .log)
 unfolding commitBelow
@@ -90,18 +90,18 @@ commit-past (suc d) t x h =
     below-other (t + d) (t + d) x (omega arith) ∙ h (t + d) (omega arith) (omega arith) in
     rw (e, l) (commit-past d t x (λ j a b. h j a (omega arith)))
 
-pub newly-skip : (k : ℕ) (l : List Entry) → ((t : ℕ) → t < k → logged t l ≡ true) → newlyBelow k l ≡ []
+pub newly-skip : (k : ℕ) (l : List LogEntry) → ((t : ℕ) → t < k → logged t l ≡ true) → newlyBelow k l ≡ []
 unfolding newlyBelow
 newly-skip zero l h = refl
 newly-skip (suc k) l h = rw (newly-skip k l (λ t g. h t (omega arith)), h k (omega arith))
 
 -- ---- what is newly committed, term by term
 
-newly-past : (k t : ℕ) (l : List Entry) → k ≤ t → termSet (newlyBelow k l) / 2 ^ t % 2 ≡ 0
+newly-past : (k t : ℕ) (l : List LogEntry) → k ≤ t → termSet (newlyBelow k l) / 2 ^ t % 2 ≡ 0
 newly-past k t l h = low-bit t (termSet (newlyBelow k l)) (lt-of-lt-of-le (newly-lt k l) (pow-mono h))
 
 -- bit t of the set says whether t is below k and not logged
-pub newly-bit : (k t : ℕ) (l : List Entry) → termSet (newlyBelow k l) / 2 ^ t % 2 ≡ cond (ltb t k) (cond (logged t l) 0 1) 0
+pub newly-bit : (k t : ℕ) (l : List LogEntry) → termSet (newlyBelow k l) / 2 ^ t % 2 ≡ cond (ltb t k) (cond (logged t l) 0 1) 0
 newly-bit zero t l = rw (le-ltb t 0 (omega arith)) (newly-past zero t l (omega arith))
 newly-bit (suc k) t l = go (newly-bit k t l) (either (ltb t k)) (either (eqb t k)) (either (logged k l))
   where

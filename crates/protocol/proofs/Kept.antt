@@ -22,7 +22,7 @@ use Rattle.random.proofs.Tables.{tabulate-cong, tabulate-snoc}
 use Rattle.phy.specs.declared.packet.Data.{Data}
 use Rattle.phy.specs.declared.packet.LastAccepted.{LastAccepted}
 use Rattle.protocol.specs.Layout.{dataPlace, logPlace, pendingPlace, loggedPlace, lastPlace, nodeSize}
-use Rattle.protocol.specs.Paxos.{Entry, Pending, logged, held, isSome, updated, entry, raise}
+use Rattle.protocol.specs.Paxos.{LogEntry, Pending, logged, held, isSome, updated, logEntry, raise}
 use Rattle.protocol.specs.View.{dataOf, lastOf, votesAt, dataAt, termAt, pendingSet, loggedSet, lastAt, entryAt, logOf, pendingOf, view, lastBelow, Distinct, Kept, Wrote}
 use Rattle.protocol.proofs.Places.{either, same-or}
 use Rattle.protocol.proofs.Logs.{logged-append, distinct-append}
@@ -242,11 +242,11 @@ module _
   entered-log =
       ap (λ (n : ℕ). tabulate n (entryAt (entered b at t e p l) at)) (ap ones entered-logged-set ∙ longer) ∙
       tabulate-snoc e (entryAt (entered b at t e p l) at) ∙
-      ap₂ (λ (m : List Entry) (x : Entry). m ++ (x ∷ []))
+      ap₂ (λ (m : List LogEntry) (x : LogEntry). m ++ (x ∷ []))
       (tabulate-cong e (entryAt (entered b at t e p l) at) (entryAt b at) entry-before ∙ ap (λ (n : ℕ). tabulate n (entryAt b at)) end)
       entry-new
 
-  pub entered-view : logOf (entered b at t e p l) at ≡ logOf b at ++ entry t (pendingOf b at t)
+  pub entered-view : logOf (entered b at t e p l) at ≡ logOf b at ++ logEntry t (pendingOf b at t)
   entered-view = rw (pending-at b at t is-pending) entered-log
 
   has-rest : (j : ℕ) → has (pendingSet (entered b at t e p l) at) j ≡ cond (eqb j t) false (has (pendingSet b at) j)

@@ -14,8 +14,8 @@ use Rattle.phy.specs.declared.packet.Data.{Data}
 use Rattle.phy.specs.declared.packet.LastAccepted.{LastAccepted}
 use Rattle.phy.specs.declared.packet.Piggyback.{Piggyback}
 use Rattle.phy.specs.declared.packet.Packet.{Packet}
-use Rattle.protocol.specs.Paxos.{Entry, Pending, State, logged, held, isSome, updated, hold, holdNew, voted, union, vote, mergeVotesUpTo, entry, raise, commitTerm, commitBelow, commitTo}
-use Rattle.protocol.specs.Turns.{propose, accepted, announce, initiatorTurn, takeData, takeVotes, takePiggyback, participantTurn}
+use Rattle.protocol.specs.Paxos.{LogEntry, Pending, State, logged, held, isSome, updated, hold, holdNew, voted, union, vote, mergeVotesUpTo, logEntry, raise, commitTerm, commitBelow, commitTo}
+use Rattle.protocol.specs.Turns.{propose, quorumTerm, announce, initiatorTurn, takeData, takeVotes, takePiggyback, participantTurn}
 use Rattle.protocol.specs.View.{Distinct}
 use Rattle.protocol.specs.Growth.{Extends, Rises, StaysPending, Apart, dataFor, ownPending, ownLog, Own}
 use Rattle.protocol.proofs.Places.{same-or, either}
@@ -91,14 +91,14 @@ module _ (D : ℕ → Data → Type 0) (Q : State → Type 0) (k : Keeps D Q) wh
       Q (initiatorTurn i n c b pb s .state)
   unfolding initiatorTurn announce
   initiator-keeps i n c b pb s e a q =
-      to-keeps (accepted n (propose b i c s)) (propose b i c s) (propose-keeps b i c s e a q)
+      to-keeps (quorumTerm n (propose b i c s)) (propose b i c s) (propose-keeps b i c s e a q)
 
 -- ---- a turn never removes a term from a log or reorders it
 
 abbrev pub Any : ℕ → Data → Type 0
 Any t d = Unit {0}
 
-pub log-extends : (l : List Entry) → Keeps Any (λ s. Extends l (s .log))
+pub log-extends : (l : List LogEntry) → Keeps Any (λ s. Extends l (s .log))
 unfolding hold mergeVotesUpTo
 log-extends l =
     record {
@@ -124,7 +124,7 @@ held-stands : (t : ℕ) (p : Pending) (s : State) → StaysPending t p s → hel
 held-stands t p s (inl w) = ap (λ (o : Option Pending). logged t (s .log) || isSome o) (w .1) ∙ or-true (logged t (s .log))
 held-stands t p s (inr w) = ap (λ (b : Bool). b || isSome (s .pending t)) (w .0)
 
-entry-logged : (t : ℕ) (q : Pending) → logged t (entry t (some q)) ≡ true
+entry-logged : (t : ℕ) (q : Pending) → logged t (logEntry t (some q)) ≡ true
 unfolding logged
 entry-logged t q = ap (λ (b : Bool). b || false) (eq-eqb t t refl)
 
@@ -140,25 +140,25 @@ votes-stand t p =
     }
   where
     entered : (u : ℕ) (s : State) → (eqb t u ≡ true) ⊎ (eqb t u ≡ false) → StaysPending t p s →
-        StaysPending t p (record { log = s .log ++ entry u (s .pending u); pending = updated u none (s .pending); last = raise u (s .last) })
+        StaysPending t p (record { log = s .log ++ logEntry u (s .pending u); pending = updated u none (s .pending); last = raise u (s .last) })
     entered u s (inl e) (inl w) =
         inr (
-          logged-append t (s .log) (entry u (s .pending u)) ∙
+          logged-append t (s .log) (logEntry u (s .pending u)) ∙
               ap (λ (b : Bool). logged t (s .log) || b)
-              (ap (λ (j : ℕ). logged t (entry j (s .pending j))) (sym (eqb-true t u e)) ∙
-              ap (λ (o : Option Pending). logged t (entry t o)) (w .1) ∙ entry-logged t (w .0)) ∙
+              (ap (λ (j : ℕ). logged t (logEntry j (s .pending j))) (sym (eqb-true t u e)) ∙
+              ap (λ (o : Option Pending). logged t (logEntry t o)) (w .1) ∙ entry-logged t (w .0)) ∙
               or-true (logged t (s .log)),
           ap (λ (b : Bool). cond b none (s .pending t)) e,
         )
     entered u s (inr e) (inl w) = inl (w .0, ap (λ (b : Bool). cond b none (s .pending t)) e ∙ w .1, w .2, w .3)
     entered u s (inl e) (inr w) =
         inr (
-          extends-logged t (s .log) (s .log ++ entry u (s .pending u)) (entry u (s .pending u), refl) (w .0),
+          extends-logged t (s .log) (s .log ++ logEntry u (s .pending u)) (logEntry u (s .pending u), refl) (w .0),
           ap (λ (b : Bool). cond b none (s .pending t)) e,
         )
     entered u s (inr e) (inr w) =
         inr (
-          extends-logged t (s .log) (s .log ++ entry u (s .pending u)) (entry u (s .pending u), refl) (w .0),
+          extends-logged t (s .log) (s .log ++ logEntry u (s .pending u)) (logEntry u (s .pending u), refl) (w .0),
           ap (λ (b : Bool). cond b none (s .pending t)) e ∙ w .1,
         )
 
@@ -189,11 +189,11 @@ kept-apart =
       merges = λ u f s q. record { distinct = q .distinct; apart = λ j h. ap (voted (leb j u) f) (q .apart j h) };
     }
   where
-    entering : (t : ℕ) (l : List Entry) (o : Option Pending) → logged t l ≡ false → Distinct l → Distinct (l ++ entry t o)
+    entering : (t : ℕ) (l : List LogEntry) (o : Option Pending) → logged t l ≡ false → Distinct l → Distinct (l ++ logEntry t o)
     entering t l none e d = rw (append-nil l) d
     entering t l (some p) e d = distinct-append l (record { term = t; payload = p .payload }) d e
 
-    entered : (t : ℕ) (s : State) → Apart s → (j : ℕ) → logged j (s .log ++ entry t (s .pending t)) ≡ true →
+    entered : (t : ℕ) (s : State) → Apart s → (j : ℕ) → logged j (s .log ++ logEntry t (s .pending t)) ≡ true →
         (eqb j t ≡ true) ⊎ (eqb j t ≡ false) → updated t none (s .pending) j ≡ none
     entered t s q j h (inl e) = ap (λ (b : Bool). cond b none (s .pending j)) e
     entered t s q j h (inr e) =
@@ -201,7 +201,7 @@ kept-apart =
         q .apart j
         (sym (or-false (logged j (s .log))) ∙
         ap (λ (b : Bool). logged j (s .log) || b) (sym (one-logged j t (s .pending t) e)) ∙
-        sym (logged-append j (s .log) (entry t (s .pending t))) ∙ h)
+        sym (logged-append j (s .log) (logEntry t (s .pending t))) ∙ h)
 
     holding : (t v : ℕ) (d : Data) (s : State) → held t s ≡ false → Apart s → (j : ℕ) → logged j (s .log) ≡ true →
         (eqb j t ≡ true) ⊎ (eqb j t ≡ false) → updated t (some (record { votes = v; payload = d })) (s .pending) j ≡ none
@@ -233,7 +233,7 @@ kept-own =
       merges = λ u f s q. record { log = q .log; pending = λ j. voting j (leb j u) f (s .pending j) (q .pending j) };
     }
   where
-    entering : (t : ℕ) (o : Option Pending) (l : List Entry) → ownPending t o → ownLog l → ownLog (l ++ entry t o)
+    entering : (t : ℕ) (o : Option Pending) (l : List LogEntry) → ownPending t o → ownLog l → ownLog (l ++ logEntry t o)
     entering t none [] p q = tt
     entering t (some o) [] p q = (p, tt)
     entering t o (e ∷ l) p q = (q .0, entering t o l p (q .1))

@@ -9,7 +9,7 @@ use borrow.Author.Tests.{eq-eqb}
 use lib.Dec.{eqb}
 use Rattle.random.specs.Table.{tabulate}
 use Rattle.phy.specs.declared.packet.Data.{Data}
-use Rattle.protocol.specs.Paxos.{Entry, logged, find}
+use Rattle.protocol.specs.Paxos.{LogEntry, logged, find}
 use Rattle.protocol.specs.View.{Distinct}
 use Rattle.protocol.proofs.Places.{eqb-sym, same-or}
 
@@ -25,12 +25,12 @@ or-assoc : (a b c : Bool) → (a || (b || c)) ≡ ((a || b) || c)
 or-assoc true b c = refl
 or-assoc false b c = refl
 
-pub logged-append : (t : ℕ) (l m : List Entry) → logged t (l ++ m) ≡ (logged t l || logged t m)
+pub logged-append : (t : ℕ) (l m : List LogEntry) → logged t (l ++ m) ≡ (logged t l || logged t m)
 unfolding logged
 logged-append t [] m = refl
 logged-append t (e ∷ l) m = ap (λ (x : Bool). eqb t (e .term) || x) (logged-append t l m) ∙ or-assoc (eqb t (e .term)) (logged t l) (logged t m)
 
-pub distinct-append : (l : List Entry) (e : Entry) → Distinct l → logged (e .term) l ≡ false → Distinct (l ++ e ∷ [])
+pub distinct-append : (l : List LogEntry) (e : LogEntry) → Distinct l → logged (e .term) l ≡ false → Distinct (l ++ e ∷ [])
 unfolding Distinct logged
 distinct-append [] e d h = (refl, tt)
 distinct-append (x ∷ l) e d h = (
@@ -40,7 +40,7 @@ distinct-append (x ∷ l) e d h = (
 )
 
 -- each entry of a log is logged
-pub logged-each : (n : ℕ) (f : ℕ → Entry) (k : ℕ) → k < n → logged (f k .term) (tabulate n f) ≡ true
+pub logged-each : (n : ℕ) (f : ℕ → LogEntry) (k : ℕ) → k < n → logged (f k .term) (tabulate n f) ≡ true
 unfolding logged tabulate
 logged-each zero f k h = absurd (omega arith)
 logged-each (suc n) f zero h = rw (eq-eqb (f zero .term) (f zero .term) refl)
@@ -49,7 +49,7 @@ logged-each (suc n) f (suc k) h =
     or-true (eqb (f (suc k) .term) (f zero .term))
 
 -- where a term's data are those of the term, a logged term is found with them
-pub find-by-term : (d : ℕ → Data) (t n : ℕ) (f : ℕ → Entry) → ((k : ℕ) → f k .payload ≡ d (f k .term)) →
+pub find-by-term : (d : ℕ → Data) (t n : ℕ) (f : ℕ → LogEntry) → ((k : ℕ) → f k .payload ≡ d (f k .term)) →
     find t (tabulate n f) ≡ cond (logged t (tabulate n f)) (some (d t)) none
 unfolding logged find tabulate
 find-by-term d t zero f h = refl

@@ -3,7 +3,7 @@ use Prim.Native.Nat.{ℕ}
 use mathlib.Core.List.{List, [], _∷_, map}
 use mathlib.Core.Path.{_≡_, refl}
 use Rattle.protocol.specs.declared.paxos.Gap.{Gap}
-use Rattle.protocol.specs.Paxos.{Entry, State, empty, majority, logged, hold, commitTerm, commitBelow, commitUpTo, newlyBelow, newlyUpTo, gapIn, detectGap}
+use Rattle.protocol.specs.Paxos.{LogEntry, State, empty, majority, logged, hold, commitTerm, commitBelow, commitUpTo, newlyBelow, newlyUpTo, gapIn, detectGap}
 use Rattle.protocol.specs.Growth.{dataFor}
 
 -- pending 1 and 3, empty log
@@ -11,7 +11,7 @@ abbrev two : State
 two = hold 3 0 (dataFor 3) (hold 1 0 (dataFor 1) empty)
 
 -- the terms of a log
-abbrev terms : List Entry → List ℕ
+abbrev terms : List LogEntry → List ℕ
 terms l = map (λ e. e .term) l
 
 pub record Starred : Type 0 where

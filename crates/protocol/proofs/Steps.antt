@@ -22,7 +22,7 @@ use Rattle.phy.specs.declared.packet.Nack.{Nack}
 use Rattle.phy.specs.declared.packet.Piggyback.{Piggyback}
 use Rattle.config.specs.Limits.{maxTerms}
 use Rattle.protocol.specs.Layout.{pendingPlace, lastPlace}
-use Rattle.protocol.specs.Paxos.{Entry, Pending, State, logged, held, hold, holdNew, isSome, updated, entry, raise, after, commitTerm, commitBelow, newlyUpTo, termSet, dataIn, reply, recovery}
+use Rattle.protocol.specs.Paxos.{LogEntry, Pending, State, logged, held, hold, holdNew, isSome, updated, logEntry, raise, after, commitTerm, commitBelow, newlyUpTo, termSet, dataIn, reply, recovery}
 use Rattle.protocol.specs.View.{dataOf, codeOf, lastOf, votesAt, dataAt, pendingSet, loggedSet, lastAt, entryAt, logOf, pendingOf, view, dataBelow, Kept, Wrote, Next}
 use Rattle.protocol.proofs.Places.{either, same-or}
 use Rattle.protocol.proofs.Logs.{or-left, find-by-term}
@@ -94,7 +94,7 @@ module _ (b : List ℕ) (at t m : ℕ) (k : Kept maxTerms b at) (free : has (log
             rw (k .logged-is t, free)
             (state-is
             (entered-view 64 (risen b at m) at t e p l now here lt is-e rest is-l ∙
-            ap₂ (λ (x : List Entry) (o : Option Pending). x ++ entry t o) (risen-log b at m k) (risen-pending b at m k t))
+            ap₂ (λ (x : List LogEntry) (o : Option Pending). x ++ logEntry t o) (risen-log b at m k) (risen-pending b at m k t))
             (λ j.
             entered-pending 64 (risen b at m) at t e p l now here lt is-e rest is-l j ∙
             ap (λ (o : Option Pending). cond (eqb j t) none o) (risen-pending b at m k j))

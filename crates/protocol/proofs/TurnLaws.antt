@@ -18,7 +18,7 @@ use Rattle.phy.specs.declared.packet.Data.{Data}
 use Rattle.phy.specs.declared.packet.Nack.{Nack}
 use Rattle.phy.specs.declared.packet.Piggyback.{Piggyback}
 use Rattle.phy.specs.declared.packet.Packet.{Packet}
-use Rattle.protocol.specs.Paxos.{Entry, Pending, State, logged, held, find, dataIn, reply, recovery}
+use Rattle.protocol.specs.Paxos.{LogEntry, Pending, State, logged, held, find, dataIn, reply, recovery}
 use Rattle.protocol.specs.Turns.{currentTerm, proposalData, announce, initiatorTurn, takeVotes, participantTurn}
 use Rattle.protocol.specs.View.{loggedSet, termAt, entryAt, logOf, view, Kept}
 use Rattle.protocol.specs.Growth.{Extends, Rises, StaysPending, Apart, dataFor, ownPending, ownLog, Own, ownData, ownBack, OwnPacket}
@@ -47,7 +47,7 @@ pub log-terms : (b : List ℕ) (at : ℕ) → map (λ e. e .term) (view b at .lo
 unfolding logOf tabulate
 log-terms b at = go (ones (loggedSet b at)) (entryAt b at)
   where
-    go : (n : ℕ) (f : ℕ → Entry) → map (λ e. e .term) (tabulate n f) ≡ tabulate n (λ (k : ℕ). f k .term)
+    go : (n : ℕ) (f : ℕ → LogEntry) → map (λ e. e .term) (tabulate n f) ≡ tabulate n (λ (k : ℕ). f k .term)
     go zero f = refl
     go (suc n) f = ap (λ (m : List ℕ). f zero .term ∷ m) (go n (λ (k : ℕ). f (suc k)))
 
@@ -136,7 +136,7 @@ ownFound : ℕ → Option Data → Type 0
 ownFound t none = Unit {0}
 ownFound t (some d) = d ≡ dataFor t
 
-find-own : (t : ℕ) (l : List Entry) → ownLog l → ownFound t (find t l)
+find-own : (t : ℕ) (l : List LogEntry) → ownLog l → ownFound t (find t l)
 unfolding find ownLog ownFound
 find-own t [] h = tt
 find-own t (e ∷ l) h =

@@ -10,12 +10,12 @@ use Rattle.phy.specs.declared.packet.Data.{Data}
 use Rattle.phy.specs.declared.packet.LastAccepted.{LastAccepted}
 use Rattle.phy.specs.declared.packet.Piggyback.{Piggyback}
 use Rattle.phy.specs.declared.packet.Packet.{Packet}
-use Rattle.protocol.specs.Paxos.{Entry, Pending, State, logged}
+use Rattle.protocol.specs.Paxos.{LogEntry, Pending, State, logged}
 use Rattle.protocol.specs.View.{Distinct}
 
 -- m begins with l: nothing of l is removed or reordered
-abbrev pub Extends : List Entry → List Entry → Type 0
-Extends l m = (d : List Entry) × (m ≡ l ++ d)
+abbrev pub Extends : List LogEntry → List LogEntry → Type 0
+Extends l m = (d : List LogEntry) × (m ≡ l ++ d)
 
 -- last accepted doesn't fall
 abbrev pub Rises : LastAccepted → LastAccepted → Type 0
@@ -48,7 +48,7 @@ abbrev pub ownPending : ℕ → Option Pending → Type 0
 ownPending t none = Unit {0}
 ownPending t (some p) = p .payload ≡ dataFor t
 
-unfoldable pub ownLog : List Entry → Type 0
+unfoldable pub ownLog : List LogEntry → Type 0
 ownLog [] = Unit {0}
 ownLog (e ∷ l) = (e .payload ≡ dataFor (e .term)) × ownLog l
 

@@ -14,7 +14,7 @@ use Rattle.phy.specs.declared.packet.Piggyback.{Piggyback}
 use Rattle.protocol.specs.declared.paxos.Gap.{Gap}
 
 -- A logged proposal.
-pub record Entry : Type 0 where
+pub record LogEntry : Type 0 where
   pub term : ℕ
   pub payload : Data
 
@@ -25,7 +25,7 @@ pub record Pending : Type 0 where
 
 -- A node's state: the log in commit order, the pending terms, and the last accepted term or none.
 pub record State : Type 0 where
-  pub log : List Entry
+  pub log : List LogEntry
   pub pending : ℕ → Option Pending
   pub last : LastAccepted
 
@@ -59,7 +59,7 @@ majority n = n / 2 + 1
 
 -- ---- what a node holds
 
-unfoldable pub logged : ℕ → List Entry → Bool
+unfoldable pub logged : ℕ → List LogEntry → Bool
 logged t [] = false
 logged t (e ∷ l) = eqb t (e .term) || logged t l
 
@@ -125,16 +125,16 @@ raise t LastAccepted.None = LastAccepted.At (record { 0 = t })
 raise t (LastAccepted.At u) = LastAccepted.At (record { 0 = max (u .0) t })
 
 -- what enters the log for t: its data if pending, else nothing
-abbrev pub entry : ℕ → Option Pending → List Entry
-entry t none = []
-entry t (some p) = record { term = t; payload = p .payload } ∷ []
+abbrev pub logEntry : ℕ → Option Pending → List LogEntry
+logEntry t none = []
+logEntry t (some p) = record { term = t; payload = p .payload } ∷ []
 
 -- `commit_term`: a term that is not logged enters the log only if pending, yet last accepted rises to it anyway
 unfoldable pub commitTerm : ℕ → State → State
 commitTerm t s =
     cond (logged t (s .log)) s
     (record {
-      log = s .log ++ entry t (s .pending t);
+      log = s .log ++ logEntry t (s .pending t);
       pending = updated t none (s .pending);
       last = raise t (s .last);
     })
@@ -149,12 +149,12 @@ abbrev pub commitUpTo : ℕ → State → State
 commitUpTo u s = commitBelow (suc u) s
 
 -- each t below k not logged, ascending
-unfoldable pub newlyBelow : ℕ → List Entry → List ℕ
+unfoldable pub newlyBelow : ℕ → List LogEntry → List ℕ
 newlyBelow zero l = []
 newlyBelow (suc k) l = newlyBelow k l ++ cond (logged k l) [] (k ∷ [])
 
 -- what `commit_up_to` answers: each t from 0 to u not logged is newly committed
-abbrev pub newlyUpTo : ℕ → List Entry → List ℕ
+abbrev pub newlyUpTo : ℕ → List LogEntry → List ℕ
 newlyUpTo u l = newlyBelow (suc u) l
 
 -- terms as a set: bit t stands for term t
@@ -167,7 +167,7 @@ unfoldable pub commitTo : LastAccepted → State → State
 commitTo LastAccepted.None s = s
 commitTo (LastAccepted.At u) s = commitUpTo (u .0) s
 
-unfoldable pub newlyTo : LastAccepted → List Entry → List ℕ
+unfoldable pub newlyTo : LastAccepted → List LogEntry → List ℕ
 newlyTo LastAccepted.None l = []
 newlyTo (LastAccepted.At u) l = newlyUpTo (u .0) l
 
@@ -185,7 +185,7 @@ detectGap c s = gapIn (c - after (s .last)) (after (s .last)) s
 -- ---- recovery
 
 -- the data of t in a log, or none
-unfoldable pub find : ℕ → List Entry → Option Data
+unfoldable pub find : ℕ → List LogEntry → Option Data
 find t [] = none
 find t (e ∷ l) = cond (eqb t (e .term)) (some (e .payload)) (find t l)
 

@@ -51,8 +51,8 @@ votesOf none = 0
 votesOf (some p) = p .votes
 
 -- the greatest pending quorum
-abbrev pub accepted : ℕ → State → LastAccepted
-accepted n s = greatestQuorum maxTerms n s
+abbrev pub quorumTerm : ℕ → State → LastAccepted
+quorumTerm n s = greatestQuorum maxTerms n s
 
 -- The packet that the initiator sends from its state s, for the current term t with the data d and the NACK g. Its flags
 -- are the votes of the current term if that is still pending, and always the initiator's own.
@@ -72,9 +72,9 @@ packetOf i t g d pb s =
 unfoldable pub announce : ℕ → ℕ → ℕ → Nack → Data → Piggyback → State → Initiated
 announce i n t g d pb s =
     record {
-      state = commitTo (accepted n s) s;
-      packet = packetOf i t g d pb (commitTo (accepted n s) s);
-      newly = newlyTo (accepted n s) (s .log);
+      state = commitTo (quorumTerm n s) s;
+      packet = packetOf i t g d pb (commitTo (quorumTerm n s) s);
+      newly = newlyTo (quorumTerm n s) (s .log);
     }
 
 -- The gap below the counter, before the proposal; the proposal; the commit and the packet.

@@ -18,7 +18,7 @@ use Rattle.phy.specs.declared.packet.Packet.{Packet}
 use Rattle.protocol.specs.declared.turns.Announced.{Announced}
 use Rattle.protocol.specs.declared.turns.Received.{Received}
 use Rattle.protocol.specs.Layout.{dataPlace, logPlace, pendingPlace, loggedPlace, lastPlace, nodeSize, noData}
-use Rattle.protocol.specs.Paxos.{Entry, Pending, State, logged, held, commitTo, newlyTo, termSet}
+use Rattle.protocol.specs.Paxos.{LogEntry, Pending, State, logged, held, commitTo, newlyTo, termSet}
 use Rattle.protocol.specs.Turns.{Initiated, counted, initiatorTurn, participantTurn}
 
 -- the data that a number stands for
@@ -54,11 +54,11 @@ loggedSet b at = getD b (at + loggedPlace) 0
 abbrev pub lastAt : List ℕ → ℕ → ℕ
 lastAt b at = getD b (at + lastPlace) 0
 
-abbrev pub entryAt : List ℕ → ℕ → ℕ → Entry
+abbrev pub entryAt : List ℕ → ℕ → ℕ → LogEntry
 entryAt b at k = record { term = termAt b at k; payload = dataAt b at (termAt b at k) }
 
 -- as many terms as are in the set of logged ones
-unfoldable pub logOf : List ℕ → ℕ → List Entry
+unfoldable pub logOf : List ℕ → ℕ → List LogEntry
 logOf b at = tabulate (ones (loggedSet b at)) (entryAt b at)
 
 unfoldable pub pendingOf : List ℕ → ℕ → ℕ → Option Pending
@@ -69,7 +69,7 @@ abbrev pub view : List ℕ → ℕ → State
 view b at = record { log = logOf b at; pending = pendingOf b at; last = lastOf (lastAt b at) }
 
 -- no log repeats a term
-unfoldable pub Distinct : List Entry → Type 0
+unfoldable pub Distinct : List LogEntry → Type 0
 Distinct [] = Unit {0}
 Distinct (e ∷ l) = (logged (e .term) l ≡ false) × Distinct l
 

@@ -19,7 +19,7 @@ use Rattle.metrics.specs.declared.summary.Summary.{Summary}
 use Rattle.config.specs.declared.Config.{Config}
 use Rattle.rules.specs.declared.answer.Answer.the-variants.{Ran}
 use Rattle.rules.specs.Questions.{configQuestions, bufferQuestions, runQuestions, rowsRefusal, topologyRefusal}
-use Rattle.rules.specs.Accepted.{Drawn, Accepted}
+use Rattle.rules.specs.Accepted.{MeasuredGraph, Accepted}
 use Rattle.rules.specs.Run.{Given, run}
 use Rattle.rules.specs.Entries.{summaryOf, ranWith, givenAs, givenOf, outcomeOf, runOfRows, runOfTopology}
 use Rattle.rules.specs.ExactRounds.{Asked, ofRows, ofTopology, givenFor, outcomeFor}
@@ -31,15 +31,15 @@ pub record Roomy (logs records : List ℕ) : Type 0 where
   pub for-records : recordsSize ≤ length records
 
 -- a graph with a configuration that passes questions 5 to 9
-pub accepts : {graph : List ℕ} {n d : ℕ} (c : Config) → Drawn graph n d → firstNo (configQuestions c) ≡ none → Accepted (givenAs graph n d c)
-accepts {graph} {n} {d} c drawn e =
+pub accepts : {graph : List ℕ} {n d : ℕ} (c : Config) → MeasuredGraph graph n d → firstNo (configQuestions c) ≡ none → Accepted (givenAs graph n d c)
+accepts {graph} {n} {d} c graph-is e =
     let q = config-facts c e in
     record {
-      checked = drawn .checked;
-      two = drawn .two;
-      few = drawn .few;
-      measured = drawn .measured;
-      short = omega (arith, drawn .measured, diameter-lt graph n (drawn .checked) (omega (arith, drawn .two)), drawn .few);
+      checked = graph-is .checked;
+      two = graph-is .two;
+      few = graph-is .few;
+      measured = graph-is .measured;
+      short = omega (arith, graph-is .measured, diameter-lt graph n (graph-is .checked) (omega (arith, graph-is .two)), graph-is .few);
       repeats-low = q .repeats .0;
       repeats-high = q .repeats .1;
       slots = q .slots;
@@ -48,8 +48,8 @@ accepts {graph} {n} {d} c drawn e =
     }
 
 -- the graph of n nodes with rows that pass the row check
-pub drawn-rows : (rows : List ℕ) (n d : ℕ) → (2 ≤ n) × (n ≤ maxNodes) → Checked rows n → d ≡ diameter (widened rows n) n → Drawn (widened rows n) n d
-drawn-rows rows n d size ck m =
+pub graph-measured : (rows : List ℕ) (n d : ℕ) → (2 ≤ n) × (n ≤ maxNodes) → Checked rows n → d ≡ diameter (widened rows n) n → MeasuredGraph (widened rows n) n d
+graph-measured rows n d size ck m =
     record {
       checked = agree-checked rows (widened rows n) n (λ i h. sym (getD-widened rows n (ck .enough) i h)) (length-widened rows n (ck .enough)) ck;
       two = size .0;
@@ -83,7 +83,7 @@ admitted (ofRows rows n) c logs records snapshots s e =
     let pass = both-none (configQuestions c) (bufferQuestions (length logs) (length records)) (yes .1) in
     let facts = row-facts rows n (yes .0) in
     record {
-      accepted = accepts c (drawn-rows rows n _ (facts .0) (facts .1) refl) (pass .0);
+      accepted = accepts c (graph-measured rows n _ (facts .0) (facts .1) refl) (pass .0);
       roomy = roomy logs records (pass .1);
       ran = ap (λ (o : Option ℕ). outcomeOf o g logs records snapshots) (r .0);
       summary = r .1;
@@ -96,7 +96,7 @@ admitted (ofTopology topology first second) c logs records snapshots s e =
     let yes = both-none (topologyQuestions topology first second) (runQuestions c (length logs) (length records)) (r .0) in
     let pass = both-none (configQuestions c) (bufferQuestions (length logs) (length records)) (yes .1) in
     record {
-      accepted = accepts c (drawn-rows rows n _ (within-both 2 maxNodes n (topology-nodes topology first second (yes .0))) (rows-checked (topologyOf topology second) n) refl) (pass .0);
+      accepted = accepts c (graph-measured rows n _ (within-both 2 maxNodes n (topology-nodes topology first second (yes .0))) (rows-checked (topologyOf topology second) n) refl) (pass .0);
       roomy = roomy logs records (pass .1);
       ran = ap (λ (o : Option ℕ). outcomeOf o g logs records snapshots) (r .0);
       summary = r .1;

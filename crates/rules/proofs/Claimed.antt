@@ -10,17 +10,17 @@ use borrow.Author.Tests.{eqb-true, eqb-false, lt-ltb, le-ltb, ltb-true, ltb-fals
 use lib.Dec.{leb, ltb, eqb}
 use Rattle.phy.specs.declared.packet.LastAccepted.{LastAccepted}
 use Rattle.protocol.specs.declared.paxos.Gap.{Gap}
-use Rattle.protocol.specs.Paxos.{Entry, Pending, State, union, logged, isSome, held, updated, hold, voted, mergeVotesUpTo, majority, size, quorum, greatestQuorum, entry, raise, after, commitTerm, commitBelow, commitTo, gapIn, detectGap}
+use Rattle.protocol.specs.Paxos.{LogEntry, Pending, State, union, logged, isSome, held, updated, hold, voted, mergeVotesUpTo, majority, size, quorum, greatestQuorum, logEntry, raise, after, commitTerm, commitBelow, commitTo, gapIn, detectGap}
 use Rattle.protocol.specs.Growth.{dataFor}
 use Rattle.protocol.proofs.Places.{either, same-or}
 use Rattle.protocol.proofs.Logs.{logged-append}
 use Rattle.protocol.proofs.Frame.{state-is}
 
 -- the log of the terms below c, each with its data
-abbrev pub entryOf : ℕ → Entry
+abbrev pub entryOf : ℕ → LogEntry
 entryOf t = record { term = t; payload = dataFor t }
 
-unfoldable pub entries : ℕ → List Entry
+unfoldable pub entries : ℕ → List LogEntry
 entries zero = []
 entries (suc c) = entries c ++ (entryOf c ∷ [])
 
@@ -111,8 +111,8 @@ module _ (c m : ℕ) (v : ℕ → ℕ) where
 pub commit-one : (c m : ℕ) (v : ℕ → ℕ) → c < m → commitTerm c (node c m v) ≡ node (suc c) m v
 unfolding commitTerm entries
 commit-one c m v h =
-    ap (λ (b : Bool). cond b (node c m v) (record { log = entries c ++ entry c (waits c m v c); pending = updated c none (waits c m v); last = raise c (lastOf c) })) (not-logged c c (omega arith))
-    ∙ state-is (ap (λ (o : Option Pending). entries c ++ entry c o) (waits-in c m v c (omega arith) h)) left (raised c)
+    ap (λ (b : Bool). cond b (node c m v) (record { log = entries c ++ logEntry c (waits c m v c); pending = updated c none (waits c m v); last = raise c (lastOf c) })) (not-logged c c (omega arith))
+    ∙ state-is (ap (λ (o : Option Pending). entries c ++ logEntry c o) (waits-in c m v c (omega arith) h)) left (raised c)
   where
     left : (t : ℕ) → updated c none (waits c m v) t ≡ waits (suc c) m v t
     left t =

@@ -9,7 +9,7 @@ use lib.ListN.{length, getD, set, length-set}
 use lib.Seq.{sets, length-sets, getD-set-same, getD-set-other}
 use Rattle.random.specs.Table.{tabulate}
 use Rattle.random.proofs.Tables.{length-tabulate, getD-tabulate}
-use Rattle.protocol.specs.Paxos.{Entry, State}
+use Rattle.protocol.specs.Paxos.{LogEntry, State}
 use Rattle.pipeline.specs.Round.{Record, stateOf}
 use Rattle.rules.specs.Entries.{terms, logsWith, recordNumbers}
 use Rattle.rules.proofs.Claimed.{entryOf, entries}
@@ -39,7 +39,7 @@ pub terms-entries : (c : ℕ) → terms (entries c) ≡ tabulate c (λ (t : ℕ)
 unfolding entries tabulate
 terms-entries zero = refl
 terms-entries (suc c) =
-    map-append (λ (e : Entry). e .term) (entries c) (entryOf c ∷ [])
+    map-append (λ (e : LogEntry). e .term) (entries c) (entryOf c ∷ [])
     ∙ ap (λ (l : List ℕ). l ++ (c ∷ [])) (terms-entries c)
     ∙ sym (tabulate-next c (λ (t : ℕ). t))
 

@@ -14,7 +14,7 @@ use Rattle.network.specs.Graph.{has}
 use Rattle.random.specs.Table.{tabulate}
 use Rattle.random.proofs.Tables.{length-tabulate, getD-tabulate, is-tabulate, tabulate-cong, tabulate-snoc}
 use Rattle.phy.specs.declared.packet.Piggyback.{Piggyback}
-use Rattle.protocol.specs.Paxos.{Entry, State, empty, logged, newlyBelow, newlyTo}
+use Rattle.protocol.specs.Paxos.{LogEntry, State, empty, logged, newlyBelow, newlyTo}
 use Rattle.protocol.specs.Turns.{Initiated, Taken, counted, initiatorTurn, participantTurn}
 use Rattle.protocol.proofs.Places.{either, getD-set}
 use Rattle.protocol.proofs.Commit.{newly-skip}
@@ -69,7 +69,7 @@ record-append starts end (t ∷ a) b r = record-append starts end a b (cond (rec
 
 module _ (S : ℕ → ℕ) (n : ℕ) (starts : List ℕ) (end : ℕ) where
   -- what is recorded already
-  record-again : (j c : ℕ) (l : List Entry) → j ≤ c → recordAll starts end (newlyBelow j l) (tabulate c (recordAt S n)) ≡ tabulate c (recordAt S n)
+  record-again : (j c : ℕ) (l : List LogEntry) → j ≤ c → recordAll starts end (newlyBelow j l) (tabulate c (recordAt S n)) ≡ tabulate c (recordAt S n)
   unfolding newlyBelow recordAll
   record-again zero c l h = refl
   record-again (suc j) c l h =
@@ -81,7 +81,7 @@ module _ (S : ℕ → ℕ) (n : ℕ) (starts : List ℕ) (end : ℕ) where
       go true = refl
       go false = rw (recorded-below S n c j, lt-ltb j c h)
 
-  pub record-old : (c : ℕ) (l : List Entry) → recordAll starts end (newlyTo (lastOf c) l) (tabulate c (recordAt S n)) ≡ tabulate c (recordAt S n)
+  pub record-old : (c : ℕ) (l : List LogEntry) → recordAll starts end (newlyTo (lastOf c) l) (tabulate c (recordAt S n)) ≡ tabulate c (recordAt S n)
   unfolding newlyTo recordAll
   record-old zero l = refl
   record-old (suc c) l = record-again (suc c) (suc c) l (omega arith)

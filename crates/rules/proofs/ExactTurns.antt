@@ -16,7 +16,7 @@ use Rattle.phy.specs.declared.packet.Piggyback.{Piggyback}
 use Rattle.phy.specs.declared.packet.Packet.{Packet}
 use Rattle.protocol.specs.declared.paxos.Gap.{Gap}
 use Rattle.protocol.specs.Paxos.{Pending, State, union, vote, size, holdNew, mergeVotesUpTo, commitTo, newlyTo, detectGap, recovery}
-use Rattle.protocol.specs.Turns.{Initiated, Taken, propose, currentTerm, proposalData, nack, votesOf, accepted, packetOf, announce, initiatorTurn, takeData, takePiggyback, takeVotes, participantTurn}
+use Rattle.protocol.specs.Turns.{Initiated, Taken, propose, currentTerm, proposalData, nack, votesOf, quorumTerm, packetOf, announce, initiatorTurn, takeData, takePiggyback, takeVotes, participantTurn}
 use Rattle.protocol.specs.Growth.{dataFor}
 use Rattle.protocol.proofs.Places.{either}
 use Rattle.protocol.proofs.Sets.{union-assoc}
@@ -131,15 +131,15 @@ module _ {n P k : ℕ} (f : Fits n P k) where
   unfolding ownVotes
   votes-many t h l = size-starters n t (suc k - t) (omega arith) (f .narrow) (omega arith)
 
-  accepts : accepted n (node (k - n / 2) (min (suc k) P) (ownVotes n k)) ≡ lastOf (suc k - n / 2)
+  accepts : quorumTerm n (node (k - n / 2) (min (suc k) P) (ownVotes n k)) ≡ lastOf (suc k - n / 2)
   accepts = ⊎-elim (λ e. early (ltb-true k (n / 2) e)) (λ e. late (ltb-false k (n / 2) e)) (either (ltb k (n / 2)))
     where
-      early : k < n / 2 → accepted n (node (k - n / 2) (min (suc k) P) (ownVotes n k)) ≡ lastOf (suc k - n / 2)
+      early : k < n / 2 → quorumTerm n (node (k - n / 2) (min (suc k) P) (ownVotes n k)) ≡ lastOf (suc k - n / 2)
       early h =
           let a : suc k - n / 2 ≡ 0 = omega arith in
           rw a (quorum-none (k - n / 2) (min (suc k) P) (ownVotes n k) n 64 (λ t c m. omega (arith, votes-many t c m)))
 
-      late : n / 2 ≤ k → accepted n (node (k - n / 2) (min (suc k) P) (ownVotes n k)) ≡ lastOf (suc k - n / 2)
+      late : n / 2 ≤ k → quorumTerm n (node (k - n / 2) (min (suc k) P) (ownVotes n k)) ≡ lastOf (suc k - n / 2)
       late h =
           let a : suc k - n / 2 ≡ suc (k - n / 2) = omega arith in
           let q : k - n / 2 < min (suc k) P = omega arith in

@@ -18,11 +18,11 @@ use Rattle.network.proofs.Rows.{getD-widened}
 use Rattle.network.proofs.Checks.{diameter-agree}
 use Rattle.rules.specs.declared.answer.Answer.the-variants.{Refused}
 use Rattle.rules.specs.Questions.{runQuestions, rowsRefusal, topologyRefusal}
-use Rattle.rules.specs.Accepted.{Drawn}
+use Rattle.rules.specs.Accepted.{MeasuredGraph}
 use Rattle.rules.specs.Entries.{givenAs, givenOf, outcomeOf, runOfRows, runOfTopology}
 use Rattle.rules.specs.Answers.{outcome}
 use Rattle.rules.proofs.FirstNo.{row-facts}
-use Rattle.rules.proofs.Admitted.{drawn-rows}
+use Rattle.rules.proofs.Admitted.{graph-measured}
 
 -- ---- rows: what the diameter's answer says
 pub measured-refused : (rows : List ℕ) (n k : ℕ) → Measured·Refused k ≡ measured rows n → firstNo (rowsQuestions rows n) ≡ some k
@@ -54,8 +54,8 @@ module _ (rows : List ℕ) (n : ℕ) (c : Config) (logs records snapshots : List
     wide-diameter : d ≡ diameter (widened rows n) n
     wide-diameter = m ∙ diameter-agree rows (widened rows n) n (λ i h. sym (getD-widened rows n (row-facts rows n e .1 .enough) i h))
 
-    pub rows-drawn : Drawn (widened rows n) n d
-    rows-drawn = let r = row-facts rows n e in drawn-rows rows n d (r .0) (r .1) wide-diameter
+    pub rows-measured : MeasuredGraph (widened rows n) n d
+    rows-measured = let r = row-facts rows n e in graph-measured rows n d (r .0) (r .1) wide-diameter
 
     -- they let it pass
     pub rows-passed : outcomeOf (firstNo (runQuestions c (length logs) (length records))) (givenAs (widened rows n) n d c) logs records snapshots ≡ runOfRows rows n c logs records snapshots
@@ -76,8 +76,8 @@ module _ (topology first second : ℕ) (c : Config) (logs records snapshots : Li
       (sym (first-no (topologyQuestions topology first second) (runQuestions c (length logs) (length records)) k e))
 
   module _ {n : ℕ} {graph : List ℕ} (b : GraphBuilt topology first second n graph) (d : ℕ) (m : d ≡ diameter graph n) where
-    pub topology-drawn : Drawn graph n d
-    topology-drawn = record { checked = b .checked; two = b .within .0; few = b .within .1; measured = m }
+    pub topology-measured : MeasuredGraph graph n d
+    topology-measured = record { checked = b .checked; two = b .within .0; few = b .within .1; measured = m }
 
     -- they let it pass
     pub topology-passed : outcomeOf (firstNo (runQuestions c (length logs) (length records))) (givenAs graph n d c) logs records snapshots

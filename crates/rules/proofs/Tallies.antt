@@ -15,7 +15,7 @@ use Rattle.phy.specs.declared.packet.Data.{Data}
 use Rattle.phy.specs.declared.packet.LastAccepted.{LastAccepted}
 use Rattle.phy.specs.declared.packet.Packet.{Packet}
 use Rattle.phy.specs.declared.packet.Piggyback.{Piggyback}
-use Rattle.protocol.specs.Paxos.{Entry, State, logged, vote, held, updated, hold, holdNew, mergeVotesUpTo, raise, entry, greatestQuorum, commitTerm, commitBelow, commitTo, newlyBelow, newlyTo}
+use Rattle.protocol.specs.Paxos.{LogEntry, State, logged, vote, held, updated, hold, holdNew, mergeVotesUpTo, raise, logEntry, greatestQuorum, commitTerm, commitBelow, commitTo, newlyBelow, newlyTo}
 use Rattle.protocol.specs.Turns.{propose, announce, initiatorTurn, takeData, takePiggyback, takeVotes, participantTurn}
 use Rattle.protocol.specs.View.{lastBelow}
 use Rattle.pipeline.specs.Round.{Record, Shared, stateOf, recorded, recordAll, prepareRound, takeTurn, turns, cleared, processRound}
@@ -39,7 +39,7 @@ few-one starts end t rs small f =
     subst FewRecords (sym (record-new starts end t rs e)) (omega (arith, more, length-append rs (r ∷ []))))
     (two (recorded t rs))
 
-few-below : (starts : List ℕ) (end k : ℕ) (l : List Entry) (rs : List Record) → k ≤ 64 → FewRecords rs → FewRecords (recordAll starts end (newlyBelow k l) rs)
+few-below : (starts : List ℕ) (end k : ℕ) (l : List LogEntry) (rs : List Record) → k ≤ 64 → FewRecords rs → FewRecords (recordAll starts end (newlyBelow k l) rs)
 unfolding newlyBelow recordAll
 few-below starts end zero l rs h f = f
 few-below starts end (suc k) l rs h f =
@@ -50,7 +50,7 @@ few-below starts end (suc k) l rs h f =
     go true now f = f
     go false now f = few-one starts end k now (omega arith) f
 
-few-to : (starts : List ℕ) (end : ℕ) (last : LastAccepted) (l : List Entry) (rs : List Record) → lastBelow 64 last → FewRecords rs → FewRecords (recordAll starts end (newlyTo last l) rs)
+few-to : (starts : List ℕ) (end : ℕ) (last : LastAccepted) (l : List LogEntry) (rs : List Record) → lastBelow 64 last → FewRecords rs → FewRecords (recordAll starts end (newlyTo last l) rs)
 unfolding newlyTo recordAll
 few-to starts end LastAccepted.None l rs h f = f
 few-to starts end (LastAccepted.At u) l rs h f = few-below starts end (suc (u .0)) l rs h f
@@ -70,7 +70,7 @@ low-below (suc k) s h l = go (logged k (commitBelow k s .log)) (low-below k s (o
     raised (LastAccepted.At u) l = omega (arith, l)
 
     go : (b : Bool) → Low (commitBelow k s)
-        → lastBelow 64 (cond b (commitBelow k s) (record { log = commitBelow k s .log ++ entry k (commitBelow k s .pending k); pending = updated k none (commitBelow k s .pending); last = raise k (commitBelow k s .last) }) .last)
+        → lastBelow 64 (cond b (commitBelow k s) (record { log = commitBelow k s .log ++ logEntry k (commitBelow k s .pending k); pending = updated k none (commitBelow k s .pending); last = raise k (commitBelow k s .last) }) .last)
     go true l = l
     go false l = raised (commitBelow k s .last) l
 

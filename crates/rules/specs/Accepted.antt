@@ -10,7 +10,7 @@ use Rattle.rules.specs.Questions.{slotsAllowed}
 use Rattle.rules.specs.Run.{Given}
 
 -- a graph of 2 to 32 nodes that passes the row check, with its diameter
-pub record Drawn (graph : List ℕ) (n d : ℕ) : Type 0 where
+pub record MeasuredGraph (graph : List ℕ) (n d : ℕ) : Type 0 where
   pub checked : Checked graph n
   pub two : 2 ≤ n
   pub few : n ≤ maxNodes

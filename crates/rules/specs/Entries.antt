@@ -13,7 +13,7 @@ use Rattle.random.specs.Reception.{heard}
 use Rattle.phy.specs.declared.node.Node.{Node}
 use Rattle.phy.specs.Slot.{sumOf}
 use Rattle.phy.specs.Snapshots.{snapshotsWith}
-use Rattle.protocol.specs.Paxos.{Entry, State}
+use Rattle.protocol.specs.Paxos.{LogEntry, State}
 use Rattle.metrics.specs.declared.summary.Summary.{Summary}
 use Rattle.config.specs.declared.Config.{Config}
 use Rattle.rules.specs.declared.answer.Answer.{Answer}
@@ -55,8 +55,8 @@ summaryOf g e =
     }
 
 -- the terms of a log, in order
-abbrev pub terms : List Entry → List ℕ
-terms log = map (λ (e : Entry). e .term) log
+abbrev pub terms : List LogEntry → List ℕ
+terms log = map (λ (e : LogEntry). e .term) log
 
 -- Logs: terms of node i from byte 64i, its count at 2,048 + i; every other byte stays.
 unfoldable pub logsWith : List ℕ → List State → ℕ → List ℕ

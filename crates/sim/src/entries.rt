@@ -15,7 +15,7 @@ use rules::questions::run_refusal;
 ghost use mathlib.Core.Path.{_≡_};
 ghost use lib.ListN.{length};
 ghost use Rattle.network.specs.Questions.{firstNo};
-ghost use Rattle.rules.specs.Accepted.{Drawn};
+ghost use Rattle.rules.specs.Accepted.{MeasuredGraph};
 ghost use Rattle.rules.specs.Answers.{outcome};
 ghost use Rattle.rules.specs.Entries.{givenAs, outcomeOf, runOfRows, runOfTopology};
 ghost use Rattle.rules.specs.Questions.{runQuestions};
@@ -30,7 +30,7 @@ fn run_graph(
     records: &mut [u64],
     snapshots: &mut [u64],
 ) -> Answer
-    requires { ⌜ Drawn (now graph) nodes diameter ⌝ }
+    requires { ⌜ MeasuredGraph (now graph) nodes diameter ⌝ }
     ensures { λ r. ⌜
         outcome r (now (logs .exit)) (now (records .exit)) (now (snapshots .exit))
         ≡ outcomeOf (firstNo (runQuestions config (length (now (logs .entry))) (length (now (records .entry)))))

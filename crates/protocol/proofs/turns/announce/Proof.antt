@@ -4,7 +4,7 @@ use borrow.Author.Needs.{needs}
 use mathlib.Core.Path.{_≡_, ap, ap₂, _∙_}
 use Rattle.phy.specs.declared.packet.LastAccepted.{LastAccepted}
 use Rattle.protocol.specs.Paxos.{State, commitTo, newlyTo, termSet, union, vote}
-use Rattle.protocol.specs.Turns.{votesOf, accepted, announce}
+use Rattle.protocol.specs.Turns.{votesOf, quorumTerm, announce}
 use Rattle.protocol.specs.View.{view, logOf}
 use Rattle.protocol.proofs.Chains.{quorum-below}
 use Rattle.protocol.proofs.turns.announce.Statement.{statement}
@@ -46,11 +46,11 @@ returns c =
     let x = view (a .states .now) (a .at) in
     let e = q .greatest-quorum .ensures in
     let n = d .commit-to .ensures .next in
-    let is : view (d .commit-to .last .0) (a .at) ≡ commitTo (accepted (a .n) x) x =
+    let is : view (d .commit-to .last .0) (a .at) ≡ commitTo (quorumTerm (a .n) x) x =
     n .is ∙ ap (λ (l : LastAccepted). commitTo l x) e in
-    let last : c .before .before .before .before .last-accepted .result ≡ commitTo (accepted (a .n) x) x .last =
+    let last : c .before .before .before .before .last-accepted .result ≡ commitTo (quorumTerm (a .n) x) x .last =
     c .before .before .before .before .last-accepted .ensures ∙ ap (λ (y : State). y .last) is in
-    let flags : c .joined .result ≡ union (votesOf (commitTo (accepted (a .n) x) x .pending (a .current .0))) (vote (a .node .0)) =
+    let flags : c .joined .result ≡ union (votesOf (commitTo (quorumTerm (a .n) x) x .pending (a .current .0))) (vote (a .node .0)) =
     c .joined .ensures ∙
     ap₂ union
     (c .before .before .votes-of .ensures ∙ ap (λ (y : State). votesOf (y .pending (a .current .0))) is)

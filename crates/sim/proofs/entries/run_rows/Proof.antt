@@ -7,11 +7,11 @@ use denote.Ref.{now}
 use lib.ListN.{length}
 use Rattle.network.specs.Distance.{diameter}
 use Rattle.network.specs.Questions.{firstNo, rowsQuestions}
-use Rattle.rules.specs.Accepted.{Drawn}
+use Rattle.rules.specs.Accepted.{MeasuredGraph}
 use Rattle.rules.specs.Questions.{runQuestions}
 use Rattle.rules.specs.Entries.{Outcome, givenAs, outcomeOf}
 use Rattle.rules.proofs.FirstNo.{row-facts}
-use Rattle.rules.proofs.Outcomes.{measured-refused, measured-links, rows-refused, rows-drawn, rows-passed}
+use Rattle.rules.proofs.Outcomes.{measured-refused, measured-links, rows-refused, rows-measured, rows-passed}
 use Rattle.sim.proofs.entries.run_rows.Statement.{statement}
 use Rattle.sim.proofs.entries.run_rows.Tie as tie
 
@@ -35,8 +35,8 @@ run-graph-requires c κs =
     let m = c .before .before .before .before .before .before in
     let a = start (m .before .before) .args in
     let l = links m in
-    subst⁻¹ (λ (g : List ℕ). Drawn g (a .n) (m .measured2 .given .0 .0)) (c .before .before .before .before .widen .ensures)
-    (rows-drawn (now (a .rows)) (a .n) (a .config) (now (a .logs)) (now (a .records)) (now (a .snapshots)) _ (l .0) (l .1))
+    subst⁻¹ (λ (g : List ℕ). MeasuredGraph g (a .n) (m .measured2 .given .0 .0)) (c .before .before .before .before .widen .ensures)
+    (rows-measured (now (a .rows)) (a .n) (a .config) (now (a .logs)) (now (a .records)) (now (a .snapshots)) _ (l .0) (l .1))
 
 returns : tie.Need-returns
 returns c =

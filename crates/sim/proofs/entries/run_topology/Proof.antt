@@ -2,7 +2,7 @@ use mathlib.Core.Path.{_∙_}
 use borrow.Author.Needs.{needs}
 use denote.Ref.{now}
 use Rattle.network.proofs.Built.{GraphBuilt, graph-refused, graph-built}
-use Rattle.rules.proofs.Outcomes.{topology-refused, topology-drawn, topology-passed}
+use Rattle.rules.proofs.Outcomes.{topology-refused, topology-measured, topology-passed}
 use Rattle.sim.proofs.entries.run_topology.Statement.{statement}
 use Rattle.sim.proofs.entries.run_topology.Tie as tie
 
@@ -22,7 +22,7 @@ run-graph-requires : tie.Need-run-graph-requires
 run-graph-requires c κs =
     let m = c .before .before .before .before .before .before .before .before in
     let a = start (m .before .before) .args in
-    topology-drawn (a .topology) (a .first) (a .second) (a .config) (now (a .logs)) (now (a .records)) (now (a .snapshots)) (built m) _ (c .before .before .before .before .diameter-of .ensures)
+    topology-measured (a .topology) (a .first) (a .second) (a .config) (now (a .logs)) (now (a .records)) (now (a .snapshots)) (built m) _ (c .before .before .before .before .diameter-of .ensures)
 
 returns : tie.Need-returns
 returns c =
