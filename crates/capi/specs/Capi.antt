@@ -89,15 +89,15 @@ floodCoverage s = ratioOf (s .covered) (s .«flood_nodes»)
 unfoldable pub returnedOf : (Summary → Ratio) → List ℕ → List Float → ℕ × List Float
 returnedOf f summary out = cond (leb summarySize (length summary) && leb 1 (length out)) (ratioResult (f (summaryAt summary)) out) (short, out)
 
--- the configuration of a run; round slots are absent where `given` is 0
+-- the configuration of a run; round slots are absent where `present` is 0
 abbrev pub slotsFrom : ℕ → ℕ → RoundSlots
-slotsFrom given slots = cond (eqb given 0) RoundSlots.Absent (RoundSlots.Of slots)
+slotsFrom present slots = cond (eqb present 0) RoundSlots.Absent (RoundSlots.Of slots)
 
 abbrev pub configFrom : ℕ → ℕ → ℕ → Float → ℕ → ℕ → ℕ → ℕ → Config
-configFrom repeats given slots loss seed proposals interval limit =
+configFrom repeats present slots loss seed proposals interval limit =
     record {
       «flood_repeats» = repeats;
-      «round_slots» = slotsFrom given slots;
+      «round_slots» = slotsFrom present slots;
       «loss_rate» = loss;
       seed = seed;
       «num_proposals» = proposals;

@@ -18,11 +18,11 @@ pub const SUMMARY_SIZE: usize = 16;
 // No refusal: the divisor is 0, and there is no ratio.
 const NO_RATIO: u64 = 101;
 
-// Round slots, or none where `given` is 0.
-fn slots_from(given: u64, slots: u64) -> RoundSlots
-    ensures { λ r. ⌜ r ≡ slotsFrom given slots ⌝ }
+// Round slots, or none where `round_slots_given` is 0.
+fn slots_from(round_slots_given: u64, slots: u64) -> RoundSlots
+    ensures { λ r. ⌜ r ≡ slotsFrom «round_slots_given» slots ⌝ }
 {
-    if given == 0 {
+    if round_slots_given == 0 {
         RoundSlots::Absent
     } else {
         RoundSlots::Of(slots)
@@ -31,7 +31,7 @@ fn slots_from(given: u64, slots: u64) -> RoundSlots
 
 pub fn config_from(
     repeats: u64,
-    given: u64,
+    round_slots_given: u64,
     round_slots: u64,
     loss: f64,
     seed: u64,
@@ -39,11 +39,11 @@ pub fn config_from(
     interval: u64,
     limit: u64,
 ) -> Config
-    ensures { λ r. ⌜ r ≡ configFrom repeats given «round_slots» loss seed proposals interval limit ⌝ }
+    ensures { λ r. ⌜ r ≡ configFrom repeats «round_slots_given» «round_slots» loss seed proposals interval limit ⌝ }
 {
     Config {
         flood_repeats: repeats,
-        round_slots: slots_from(given, round_slots),
+        round_slots: slots_from(round_slots_given, round_slots),
         loss_rate: loss,
         seed,
         num_proposals: proposals,

@@ -123,14 +123,14 @@ pub extern "C" fn ctsim_flood_coverage(summary: &[u64], out: &mut [f64]) -> u64
     write_ratio(flood_coverage(read_summary(summary)), out)
 }
 
-// A run of the topology with that number. `given` says whether there are round slots: 0 no, any other yes.
+// A run of the topology with that number. `round_slots_given` says whether there are round slots: 0 no, any other yes.
 #[no_mangle]
 pub extern "C" fn ctsim_run_topology(
     topology: u64,
     first: u64,
     second: u64,
     repeats: u64,
-    given: u64,
+    round_slots_given: u64,
     round_slots: u64,
     loss: f64,
     seed: u64,
@@ -144,7 +144,7 @@ pub extern "C" fn ctsim_run_topology(
 ) -> u64
     ensures { λ r. ⌜
         returned r (now (summary .exit)) (now (logs .exit)) (now (records .exit)) (now (snapshots .exit))
-        ≡ returnedTopology topology first second (configFrom repeats given «round_slots» loss seed proposals interval limit)
+        ≡ returnedTopology topology first second (configFrom repeats «round_slots_given» «round_slots» loss seed proposals interval limit)
         (now (summary .entry)) (now (logs .entry)) (now (records .entry)) (now (snapshots .entry))
         ⌝ }
 {
@@ -153,7 +153,7 @@ pub extern "C" fn ctsim_run_topology(
     }
     let config = config_from(
         repeats,
-        given,
+        round_slots_given,
         round_slots,
         loss,
         seed,
@@ -171,7 +171,7 @@ pub extern "C" fn ctsim_run_rows(
     rows: &[u32],
     n: u64,
     repeats: u64,
-    given: u64,
+    round_slots_given: u64,
     round_slots: u64,
     loss: f64,
     seed: u64,
@@ -185,7 +185,7 @@ pub extern "C" fn ctsim_run_rows(
 ) -> u64
     ensures { λ r. ⌜
         returned r (now (summary .exit)) (now (logs .exit)) (now (records .exit)) (now (snapshots .exit))
-        ≡ returnedRun (now (rows .entry)) n (configFrom repeats given «round_slots» loss seed proposals interval limit)
+        ≡ returnedRun (now (rows .entry)) n (configFrom repeats «round_slots_given» «round_slots» loss seed proposals interval limit)
         (now (summary .entry)) (now (logs .entry)) (now (records .entry)) (now (snapshots .entry))
         ⌝ }
 {
@@ -194,7 +194,7 @@ pub extern "C" fn ctsim_run_rows(
     }
     let config = config_from(
         repeats,
-        given,
+        round_slots_given,
         round_slots,
         loss,
         seed,

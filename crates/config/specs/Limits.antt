@@ -1,11 +1,14 @@
 -- The limits of the rules (rule 1.6) and the layouts of the lent buffers (rules 7.1 to 7.3), each by its name.
-use Prim.Native.Nat.{ℕ, _+_, _*_}
+use Prim.Native.Nat.{ℕ, _+_, _*_, _^_}
 
 -- how many bits a set has: how many nodes or terms it can tell apart
 abbrev pub setBits : ℕ
 setBits = 64
 
--- the most nodes of a graph
+-- the least and the most nodes of a graph
+abbrev pub minNodes : ℕ
+minNodes = 2
+
 abbrev pub maxNodes : ℕ
 maxNodes = 32
 
@@ -36,8 +39,15 @@ abbrev pub extraRounds : ℕ
 extraRounds = 1000
 
 -- Rounds of a run of P proposals: end 3 comes after index P + 1,001 at the latest.
+abbrev pub enoughRounds : ℕ
+enoughRounds = extraRounds + 2
+
 abbrev pub mostRounds : ℕ → ℕ
-mostRounds proposals = proposals + (extraRounds + 2)
+mostRounds proposals = proposals + enoughRounds
+
+-- every count of a run is below this, and so is their sum
+abbrev pub countBound : ℕ
+countBound = 2 ^ 40
 
 -- a record: id, start, end
 abbrev pub recordSize : ℕ

@@ -4,7 +4,9 @@
 // How many bits a set has: how many nodes or terms it can tell apart.
 pub const SET_BITS: usize = 64;
 
-// The most nodes of a graph.
+// The least and the most nodes of a graph.
+pub const MIN_NODES: u64 = 2;
+
 pub const MAX_NODES: usize = 32;
 
 // The most terms: proposals, logged terms of a node, and records.

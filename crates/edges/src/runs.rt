@@ -13,7 +13,7 @@ use rules::answer::Answer;
 use sim::entries::run_topology;
 
 // The configuration of the printed run (rule 14.3's first), but for the round slots.
-fn configured(slots: RoundSlots) -> Config {
+fn config_with(slots: RoundSlots) -> Config {
     Config {
         flood_repeats: 1,
         round_slots: slots,
@@ -26,11 +26,11 @@ fn configured(slots: RoundSlots) -> Config {
 }
 
 fn printed_config() -> Config {
-    configured(RoundSlots::Absent)
+    config_with(RoundSlots::Absent)
 }
 
 fn with_slots(n: u64) -> Config {
-    configured(RoundSlots::Of(n))
+    config_with(RoundSlots::Of(n))
 }
 
 fn with_interval(n: u64) -> Config {

@@ -8,29 +8,29 @@ use lib.Dec.{eqb}
 use lib.ListN.{length, getD, take, drop, drop-of-length-le}
 use borrow.Author.Tests.{eq-eqb, ne-eqb}
 use Rattle.line.proofs.Front.{front}
-use Rattle.line.specs.Line.{before, fields, prefixed}
+use Rattle.line.specs.Line.{bytesBefore, fields, prefixed}
 
 -- the bytes before a stop are the first ones
-pub take-before : (stop : ℕ) (l : List ℕ) → take (length (before stop l)) l ≡ before stop l
-unfolding before
+pub take-before : (stop : ℕ) (l : List ℕ) → take (length (bytesBefore stop l)) l ≡ bytesBefore stop l
+unfolding bytesBefore
 take-before stop [] = refl
 take-before stop (b ∷ bs) = case (take-before stop bs) (eqb b stop)
   where
-    case : take (length (before stop bs)) bs ≡ before stop bs → (t : Bool) → take (length (cond t [] (b ∷ before stop bs))) (b ∷ bs) ≡ cond t [] (b ∷ before stop bs)
+    case : take (length (bytesBefore stop bs)) bs ≡ bytesBefore stop bs → (t : Bool) → take (length (cond t [] (b ∷ bytesBefore stop bs))) (b ∷ bs) ≡ cond t [] (b ∷ bytesBefore stop bs)
     case e true = refl
     case e false = ap (λ l. b ∷ l) e
 
 module _ (stop : ℕ) (l : List ℕ) (i : ℕ) where
-  pub before-end : length l ≤ i → length (before stop (drop i l)) ≡ 0
-  unfolding before
+  pub before-end : length l ≤ i → length (bytesBefore stop (drop i l)) ≡ 0
+  unfolding bytesBefore
   before-end h = rw (drop-of-length-le l h)
 
-  pub before-stop : i < length l → getD l i 0 ≡ stop → length (before stop (drop i l)) ≡ 0
-  unfolding before
+  pub before-stop : i < length l → getD l i 0 ≡ stop → length (bytesBefore stop (drop i l)) ≡ 0
+  unfolding bytesBefore
   before-stop h e = rw (front l i h) (simp (eq-eqb _ _ e))
 
-  pub before-other : i < length l → (getD l i 0 ≡ stop → ⊥) → length (before stop (drop i l)) ≡ suc (length (before stop (drop (i + 1) l)))
-  unfolding before
+  pub before-other : i < length l → (getD l i 0 ≡ stop → ⊥) → length (bytesBefore stop (drop i l)) ≡ suc (length (bytesBefore stop (drop (i + 1) l)))
+  unfolding bytesBefore
   before-other h e = rw (front l i h) (simp (ne-eqb _ _ e))
 
 length-prefixed : (b : ℕ) (fs : List (List ℕ)) → length (prefixed b fs) ≡ length fs
@@ -44,22 +44,22 @@ later-prefixed b [] k = refl
 later-prefixed b (f ∷ fs) k = refl
 
 -- the first field is what stands before the first space
-pub fields-first : (l : List ℕ) → (fs : List (List ℕ)) × (fields l ≡ before 32 l ∷ fs)
-unfolding fields before prefixed
+pub fields-first : (l : List ℕ) → (fs : List (List ℕ)) × (fields l ≡ bytesBefore 32 l ∷ fs)
+unfolding fields bytesBefore prefixed
 fields-first [] = ([], refl)
 fields-first (b ∷ bs) = case (fields-first bs) (eqb b 32)
   where
-    case : (fs : List (List ℕ)) × (fields bs ≡ before 32 bs ∷ fs)
-        → (t : Bool) → (fs : List (List ℕ)) × (cond t ([] ∷ fields bs) (prefixed b (fields bs)) ≡ cond t [] (b ∷ before 32 bs) ∷ fs)
+    case : (fs : List (List ℕ)) × (fields bs ≡ bytesBefore 32 bs ∷ fs)
+        → (t : Bool) → (fs : List (List ℕ)) × (cond t ([] ∷ fields bs) (prefixed b (fields bs)) ≡ cond t [] (b ∷ bytesBefore 32 bs) ∷ fs)
     case e true = (fields bs, refl)
     case e false = (e .0, ap (prefixed b) (e .1))
 
-pub first-field : (l : List ℕ) → before 32 l ≡ getD (fields l) 0 []
+pub first-field : (l : List ℕ) → bytesBefore 32 l ≡ getD (fields l) 0 []
 first-field l = rw (fields-first l .1)
 
 module _ (l : List ℕ) (i : ℕ) where
-  pub fields-end : length l ≤ i → (k : ℕ) → getD (fields (drop i l)) k [] ≡ before 32 (drop i l)
-  unfolding fields before
+  pub fields-end : length l ≤ i → (k : ℕ) → getD (fields (drop i l)) k [] ≡ bytesBefore 32 (drop i l)
+  unfolding fields bytesBefore
   fields-end h zero = rw (drop-of-length-le l h)
   fields-end h (suc k) = rw (drop-of-length-le l h)
 

@@ -10,7 +10,7 @@ use lib.ListN.{length, getD, take, length-take}
 use lib.Seq.{take-all}
 use borrow.Author.Count.{below-none, below-more}
 use borrow.Author.Tests.{eqb-true, leb-true, leb-false}
-use Rattle.line.specs.Line.{before, fields, prefixed, isDash, given, roundSlots, _>>=_, fourDecimals, readFields, readLine}
+use Rattle.line.specs.Line.{bytesBefore, fields, prefixed, isDash, slotsPresent, roundSlots, _>>=_, fourDecimals, readFields, readLine}
 use Rattle.line.specs.Numeral.{decimal, hexadecimal}
 use Rattle.line.specs.declared.read.Read.{Read}
 use Rattle.line.specs.declared.read.Read.the-variants.{Unreadable}
@@ -66,11 +66,11 @@ slots-short : (t : List ℕ) {s : RoundSlots} → roundSlots t ≡ some s → le
 unfolding roundSlots
 slots-short t {s} e = case (isDash t) refl e
   where
-    number : (o : Option ℕ) → given o ≡ some s → (n : ℕ) × (o ≡ some n)
+    number : (o : Option ℕ) → slotsPresent o ≡ some s → (n : ℕ) × (o ≡ some n)
     number none e = let z : _≡_ {A = ℕ} 0 1 = cc in absurd (omega arith)
     number (some n) e = (n, refl)
 
-    case : (b : Bool) → isDash t ≡ b → cond b (some Absent) (given (decimal t)) ≡ some s → length t ≤ 20
+    case : (b : Bool) → isDash t ≡ b → cond b (some Absent) (slotsPresent (decimal t)) ≡ some s → length t ≤ 20
     case true q e = dash-short t q
     case false q e = decimal-short t (number (decimal t) e .1)
 
@@ -113,22 +113,22 @@ long-line l h = case (eqb (length (fields l)) 10) refl
     case false e = refl
 
 -- the line in the first n bytes of an input
-before-take : (stop n : ℕ) (l : List ℕ) → before stop (take n l) ≡ take n (before stop l)
-unfolding before
+before-take : (stop n : ℕ) (l : List ℕ) → bytesBefore stop (take n l) ≡ take n (bytesBefore stop l)
+unfolding bytesBefore
 before-take stop zero l = refl
 before-take stop (suc n) [] = refl
 before-take stop (suc n) (b ∷ bs) = case (before-take stop n bs) (eqb b stop)
   where
-    case : before stop (take n bs) ≡ take n (before stop bs) → (t : Bool) → cond t [] (b ∷ before stop (take n bs)) ≡ take (suc n) (cond t [] (b ∷ before stop bs))
+    case : bytesBefore stop (take n bs) ≡ take n (bytesBefore stop bs) → (t : Bool) → cond t [] (b ∷ bytesBefore stop (take n bs)) ≡ take (suc n) (cond t [] (b ∷ bytesBefore stop bs))
     case e true = refl
     case e false = ap (λ l. b ∷ l) e
 
 pub first-bytes-decide : (n : ℕ) → 210 ≤ n → (input : List ℕ) → readLine (take n input) ≡ readLine input
 unfolding readLine
-first-bytes-decide n h input = ap readable (before-take 10 n input) ∙ case (leb (length (before 10 input)) n) refl
+first-bytes-decide n h input = ap readable (before-take 10 n input) ∙ case (leb (length (bytesBefore 10 input)) n) refl
   where
-    case : (t : Bool) → leb (length (before 10 input)) n ≡ t → readable (take n (before 10 input)) ≡ readable (before 10 input)
-    case true e = ap readable (take-all n (before 10 input) (leb-true _ n e))
+    case : (t : Bool) → leb (length (bytesBefore 10 input)) n ≡ t → readable (take n (bytesBefore 10 input)) ≡ readable (bytesBefore 10 input)
+    case true e = ap readable (take-all n (bytesBefore 10 input) (leb-true _ n e))
     case false e =
-        let longer : n < length (before 10 input) = leb-false _ n e in
-        long-line (take n (before 10 input)) (omega (arith, length-take n (before 10 input))) ∙ sym (long-line (before 10 input) (omega arith))
+        let longer : n < length (bytesBefore 10 input) = leb-false _ n e in
+        long-line (take n (bytesBefore 10 input)) (omega (arith, length-take n (bytesBefore 10 input))) ∙ sym (long-line (bytesBefore 10 input) (omega arith))

@@ -1,4 +1,4 @@
 -- What is right for the crate `line`.
 pub mod Line
 pub mod Numeral
-pub mod Asked
+pub mod Configured

@@ -10,11 +10,15 @@ use Rattle.line.specs.Numeral.{decimal, hexadecimal}
 use Rattle.config.specs.declared.RoundSlots.{RoundSlots}
 use Rattle.config.specs.declared.RoundSlots.the-variants.{Absent, Of}
 use Rattle.line.specs.declared.read.Slots.{Slots}
-use Rattle.line.specs.declared.read.Slots.the-variants.{Given, Unreadable as Slots·Unreadable}
+use Rattle.line.specs.declared.read.Slots.the-variants.{Of as Slots·Of, Unreadable as Slots·Unreadable}
 use Rattle.line.specs.declared.read.Four.{Four}
 use Rattle.line.specs.declared.read.Four.the-variants.{Of as Four·Of, Unreadable as Four·Unreadable}
 use Rattle.line.specs.declared.read.Read.{Read}
 use Rattle.line.specs.declared.read.Read.the-variants.{Line as Read·Line, Unreadable}
+
+-- how many fields a line has
+abbrev pub lineFields : ℕ
+lineFields = 10
 
 abbrev pub newline : ℕ
 newline = 10
@@ -26,9 +30,9 @@ abbrev pub dash : ℕ
 dash = 45
 
 -- the bytes before the first `stop`, or all of them
-unfoldable pub before : ℕ → List ℕ → List ℕ
-before stop [] = []
-before stop (b ∷ bs) = cond (eqb b stop) [] (b ∷ before stop bs)
+unfoldable pub bytesBefore : ℕ → List ℕ → List ℕ
+bytesBefore stop [] = []
+bytesBefore stop (b ∷ bs) = cond (eqb b stop) [] (b ∷ bytesBefore stop bs)
 
 -- a byte in front of the first field; there always is one
 unfoldable pub prefixed : ℕ → List (List ℕ) → List (List ℕ)
@@ -44,13 +48,13 @@ fields (b ∷ bs) = cond (eqb b space) ([] ∷ fields bs) (prefixed b (fields bs
 unfoldable pub isDash : List ℕ → Bool
 isDash t = eqb (length t) 1 && eqb (getD t 0 0) dash
 
-abbrev pub given : Option ℕ → Option RoundSlots
-given none = none
-given (some n) = some (Of n)
+abbrev pub slotsPresent : Option ℕ → Option RoundSlots
+slotsPresent none = none
+slotsPresent (some n) = some (Of n)
 
 -- `-` where the round slots are absent, else a decimal
 unfoldable pub roundSlots : List ℕ → Option RoundSlots
-roundSlots t = cond (isDash t) (some Absent) (given (decimal t))
+roundSlots t = cond (isDash t) (some Absent) (slotsPresent (decimal t))
 
 -- go on with a field that is readable
 unfoldable pub _>>=_ : {A : Type 0} → Option A → (A → Read) → Read
@@ -89,11 +93,11 @@ readFields fs =
 
 -- what the input asks for
 unfoldable pub readLine : List ℕ → Read
-readLine input = let fs = fields (before newline input) in cond (eqb (length fs) 10) (readFields fs) Unreadable
+readLine input = let fs = fields (bytesBefore newline input) in cond (eqb (length fs) lineFields) (readFields fs) Unreadable
 
 -- what the reader of the round slots answers
 abbrev pub slotsOf : Slots → Option RoundSlots
-slotsOf (Given s) = some s
+slotsOf (Slots·Of s) = some s
 slotsOf Slots·Unreadable = none
 
 -- what is made of the answer of the reader of four decimals

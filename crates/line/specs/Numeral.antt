@@ -26,13 +26,20 @@ append base n (b ∷ bs) = append base (n * base + digit b) bs
 unfoldable pub numeral : ℕ → List ℕ → Option ℕ
 numeral base t = cond (allDigits base t && ltb (append base 0 t) (2 ^ 64)) (some (append base 0 t)) none
 
+-- the most digits of a decimal, and the digits of a loss rate's bits
+abbrev pub maxDigits : ℕ
+maxDigits = 20
+
+abbrev pub rateDigits : ℕ
+rateDigits = 16
+
 -- a decimal: 1 to 20 digits, below 2^64
 unfoldable pub decimal : List ℕ → Option ℕ
-decimal t = cond (leb 1 (length t) && leb (length t) 20) (numeral 10 t) none
+decimal t = cond (leb 1 (length t) && leb (length t) maxDigits) (numeral 10 t) none
 
 -- 16 lowercase hexadecimal digits
 unfoldable pub hexadecimal : List ℕ → Option ℕ
-hexadecimal t = cond (eqb (length t) 16) (numeral 16 t) none
+hexadecimal t = cond (eqb (length t) rateDigits) (numeral 16 t) none
 
 -- what the reader of a number answers
 abbrev pub numberOf : Number → Option ℕ

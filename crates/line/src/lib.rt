@@ -1,4 +1,4 @@
 // The line that the program reads, and the configuration that it asks for.
-pub mod asked;
+pub mod configured;
 pub mod numeral;
 pub mod read;

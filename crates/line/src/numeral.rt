@@ -9,6 +9,11 @@ pub enum Number {
     Unreadable,
 }
 
+// The most digits of a decimal, and the digits of a loss rate's bits.
+const MAX_DIGITS: usize = 20;
+
+const RATE_DIGITS: usize = 16;
+
 // The digit that a byte stands for: `0` to `9`, then `a` to `f`. Of any other byte 16.
 fn digit(byte: u8) -> u64
     ensures { λ r. ⌜ r ≡ Numeral.digit byte ⌝ }
@@ -56,7 +61,7 @@ pub fn decimal(text: &[u8]) -> Number
     if text.len() < 1 {
         return Number::Unreadable;
     }
-    if 20 < text.len() {
+    if MAX_DIGITS < text.len() {
         return Number::Unreadable;
     }
     numeral(10, text)
@@ -66,7 +71,7 @@ pub fn decimal(text: &[u8]) -> Number
 pub fn hexadecimal(text: &[u8]) -> Number
     ensures { λ r. ⌜ Numeral.numberOf r ≡ Numeral.hexadecimal (now (text .entry)) ⌝ }
 {
-    if text.len() == 16 {
+    if text.len() == RATE_DIGITS {
         return numeral(16, text);
     }
     Number::Unreadable

@@ -3,13 +3,16 @@ ghost use mathlib.Core.Path.{_≡_};
 ghost use mathlib.Core.List.{[]};
 ghost use Prim.Native.Nat.{ℕ, _≤_};
 ghost use lib.ListN.{length, drop, getD};
-ghost use Rattle.line.specs.Line.{before, fields, fourDecimals, fourOf, isDash, readFields, readLine, roundSlots, slotsOf, space};
+ghost use Rattle.line.specs.Line.{bytesBefore, fields, fourDecimals, fourOf, isDash, readFields, readLine, roundSlots, slotsOf, space};
 ghost use Rattle.line.specs.Numeral.{numberOf};
 ghost use Rattle.line.specs.Numeral.{decimal as Numeral·decimal, hexadecimal as Numeral·hexadecimal};
 use super::numeral::Number;
 use super::numeral::decimal;
 use super::numeral::hexadecimal;
 use config::RoundSlots;
+
+// How many fields a line has.
+const LINE_FIELDS: usize = 10;
 
 // What the line asks for. The loss rate is the bits of its f64.
 pub struct Line {
@@ -32,7 +35,7 @@ pub enum Read {
 
 // What the field of the round slots stands for.
 enum Slots {
-    Given(RoundSlots),
+    Of(RoundSlots),
     Unreadable,
 }
 
@@ -44,7 +47,7 @@ enum Four {
 
 // How many bytes stand before the first `stop`: all of them where there is none.
 pub fn until(s: &[u8], stop: u8) -> usize
-    ensures { λ r. ⌜ (r ≡ length (before stop (now (s .entry)))) × (r ≤ length (now (s .entry))) ⌝ }
+    ensures { λ r. ⌜ (r ≡ length (bytesBefore stop (now (s .entry)))) × (r ≤ length (now (s .entry))) ⌝ }
 {
     let mut i = 0;
     while i < s.len() {
@@ -58,7 +61,7 @@ pub fn until(s: &[u8], stop: u8) -> usize
 
 // The bytes before the first `stop`.
 fn part_before(s: &[u8], stop: u8) -> &[u8]
-    ensures { λ r. ⌜ now r ≡ before stop (now (s .entry)) ⌝ }
+    ensures { λ r. ⌜ now r ≡ bytesBefore stop (now (s .entry)) ⌝ }
 {
     let end = until(s, stop);
     &s[..end]
@@ -81,7 +84,7 @@ fn field_count(line: &[u8]) -> usize
 
 // Where field k starts: behind the k-th space, or the line's end.
 pub fn field_start(line: &[u8], k: usize) -> usize
-    ensures { λ r. ⌜ (r ≤ length (now (line .entry))) × (before space (drop r (now (line .entry))) ≡ getD (fields (now (line .entry))) k []) ⌝ }
+    ensures { λ r. ⌜ (r ≤ length (now (line .entry))) × (bytesBefore space (drop r (now (line .entry))) ≡ getD (fields (now (line .entry))) k []) ⌝ }
 {
     let mut left = k;
     let mut at = 0;
@@ -132,10 +135,10 @@ fn round_slots(text: &[u8]) -> Slots
     ensures { λ r. ⌜ slotsOf r ≡ roundSlots (now (text .entry)) ⌝ }
 {
     if is_dash(text) {
-        return Slots::Given(RoundSlots::Absent);
+        return Slots::Of(RoundSlots::Absent);
     }
     match decimal(text) {
-        Number::Of(n) => Slots::Given(RoundSlots::Of(n)),
+        Number::Of(n) => Slots::Of(RoundSlots::Of(n)),
         Number::Unreadable => Slots::Unreadable,
     }
 }
@@ -173,7 +176,7 @@ fn read_fields(line: &[u8]) -> Read
     let Four::Of(topology, first, second, repeats) = four_decimals(line, 0) else {
         return Read::Unreadable;
     };
-    let Slots::Given(round_slots) = round_slots_field(line, 4) else {
+    let Slots::Of(round_slots) = round_slots_field(line, 4) else {
         return Read::Unreadable;
     };
     let Number::Of(loss) = loss_field(line, 5) else {
@@ -201,7 +204,7 @@ pub fn read_line(input: &[u8]) -> Read
     ensures { λ r. ⌜ r ≡ readLine (now (input .entry)) ⌝ }
 {
     let line = part_before(input, b'\n');
-    if field_count(line) == 10 {
+    if field_count(line) == LINE_FIELDS {
         return read_fields(line);
     }
     Read::Unreadable

@@ -21,8 +21,8 @@ sets-append l i (b ∷ s) t =
 pub take-more : (l : List ℕ) (i : ℕ) → i < length l → take (i + 1) l ≡ take i l ++ (getD l i 0 ∷ [])
 take-more l i inside = rw (add-one, take-suc l i 0 inside)
 
-pub nothing : (l : List ℕ) (at : ℕ) → Laid 0 l at [] l at
-nothing l at = record { contents = refl; place = omega arith; short = omega arith }
+pub laid-nothing : (l : List ℕ) (at : ℕ) → Laid 0 l at [] l at
+laid-nothing l at = record { contents = refl; place = omega arith; at-most = omega arith }
 
 -- one text behind another
 pub _then_ :
@@ -32,21 +32,21 @@ _then_ {l = l} {at = at} {s = s} {t = t} a b =
     record {
       contents = b .contents ∙ rw (a .contents, a .place) (sym (sets-append l at s t));
       place = omega (arith, a .place, b .place, length-append s t);
-      short = omega (arith, length-append s t, a .short, b .short);
+      at-most = omega (arith, length-append s t, a .at-most, b .at-most);
     }
 
 infixl 20 _then_
 module _ {m : ℕ} {l l′ : List ℕ} {at at′ : ℕ} {s : List ℕ} (a : Laid m l at s l′ at′) where
   -- how far a text reaches
   pub reach : at′ ≤ at + m
-  reach = omega (arith, a .place, a .short)
+  reach = omega (arith, a .place, a .at-most)
 
   -- another bound
   pub bounded : {m′ : ℕ} → length s ≤ m′ → Laid m′ l at s l′ at′
-  bounded h = record { contents = a .contents; place = a .place; short = h }
+  bounded h = record { contents = a .contents; place = a .place; at-most = h }
 
   pub within : {m′ : ℕ} → m ≤ m′ → Laid m′ l at s l′ at′
-  within h = bounded (omega (arith, a .short))
+  within h = bounded (omega (arith, a .at-most))
 
   -- the buffer keeps its length
   pub same-size : length l′ ≡ length l
@@ -54,7 +54,7 @@ module _ {m : ℕ} {l l′ : List ℕ} {at at′ : ℕ} {s : List ℕ} (a : Laid
 
 -- a text from the buffer's start on
 pub whole : {m : ℕ} {l l′ : List ℕ} {at′ : ℕ} {s : List ℕ} → Laid m l 0 s l′ at′ → Written m s l l′ at′
-whole a = record { contents = a .contents; counted = a .place ∙ zero-add _; short = a .short }
+whole a = record { contents = a .contents; sized = a .place ∙ zero-add _; at-most = a .at-most }
 
 -- a number's text: one digit, and one digit more
 module _ (n : ℕ) where
@@ -75,7 +75,7 @@ pub record Listed (f : ℕ → List ℕ) (m n : ℕ) (l : List ℕ) (at i : ℕ)
 module _ {f : ℕ → List ℕ} {m n : ℕ} {l : List ℕ} {at : ℕ} where
   pub each-none : Listed f m n l at 0 l at
   unfolding each
-  each-none = record { inside = omega arith; laid = within (nothing l at) (omega arith) }
+  each-none = record { inside = omega arith; laid = within (laid-nothing l at) (omega arith) }
 
   module _ {i : ℕ} {l′ : List ℕ} {at′ : ℕ} (t : Listed f m n l at i l′ at′) where
     pub each-more : {l″ : List ℕ} {at″ : ℕ} → i < n → Laid m l′ at′ (f i) l″ at″ → Listed f m n l at (i + 1) l″ at″

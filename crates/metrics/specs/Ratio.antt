@@ -13,9 +13,13 @@ use Rattle.metrics.specs.declared.ratios.Ratio.the-variants.{None, Of, R
 unfoldable pub quotient : ℕ → ℕ → Float
 quotient part whole = Ieee.div binary64 (Ieee.ofInt binary64 (pos part)) (Ieee.ofInt binary64 (pos whole))
 
+-- every count up to it is an f64
+abbrev pub exactCount : ℕ
+exactCount = 2 ^ 53
+
 -- question 11: both counts are at most 2^53
 abbrev pub question11 : ℕ → ℕ → Bool
-question11 part whole = leb part (2 ^ 53) && leb whole (2 ^ 53)
+question11 part whole = leb part exactCount && leb whole exactCount
 
 unfoldable pub ratioOf : ℕ → ℕ → Ratio
 ratioOf part whole = cond (question11 part whole) (cond (eqb whole 0) None (Of (quotient part whole))) (Refused 11)

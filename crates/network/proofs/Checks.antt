@@ -49,8 +49,8 @@ right-checked rows n h e =
     record {
       enough = h;
       narrow = λ i l. ltb-true (getD rows i 0) (2 ^ n) (first i l .0);
-      apart = λ i l. not-true (linked rows i i) (first i l .1);
-      both = λ i j li lj. beq-same (linked rows i j) (linked rows j i) (all-elim n (λ j. Bool·beq (linked rows i j) (linked rows j i)) (row i li .1) j lj);
+      loopless = λ i l. not-true (linked rows i i) (first i l .1);
+      symmetric = λ i j li lj. beq-same (linked rows i j) (linked rows j i) (all-elim n (λ j. Bool·beq (linked rows i j) (linked rows j i)) (row i li .1) j lj);
     }
   where
     row : (i : ℕ) → i < n → ((ltb (getD rows i 0) (2 ^ n) && not (linked rows i i)) ≡ true) × (mirrored rows n i ≡ true)
@@ -71,8 +71,8 @@ checked-question4 rows n ck =
     ap₂ _&&_ (le-leb n (length rows) (ck .enough))
     (all-intro n (rowRight rows n)
     (λ i l.
-    ap₂ _&&_ (ap₂ _&&_ (lt-ltb (getD rows i 0) (2 ^ n) (ck .narrow i l)) (ap not (ck .apart i l)))
-    (all-intro n (λ j. Bool·beq (linked rows i j) (linked rows j i)) (λ j lj. beq-refl (linked rows i j) (linked rows j i) (ck .both i j l lj)))))
+    ap₂ _&&_ (ap₂ _&&_ (lt-ltb (getD rows i 0) (2 ^ n) (ck .narrow i l)) (ap not (ck .loopless i l)))
+    (all-intro n (λ j. Bool·beq (linked rows i j) (linked rows j i)) (λ j lj. beq-refl (linked rows i j) (linked rows j i) (ck .symmetric i j l lj)))))
 
 -- ---- two lists whose first n rows agree
 module _ (rows other : List ℕ) (n : ℕ) (agree : (i : ℕ) → i < n → getD rows i 0 ≡ getD other i 0) where

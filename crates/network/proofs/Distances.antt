@@ -65,7 +65,7 @@ module _ (rows : List ℕ) (n : ℕ) (ck : Checked rows n) where
 
   pub turned : {a k b : ℕ} → a < n → Path rows a k b → Path rows b k a
   turned h here = here
-  turned h (on {b = b} {c = c} p l) = cons (sym (ck .both b c (path-below h p) (link-below b c (path-below h p) l)) ∙ l) (turned h p)
+  turned h (on {b = b} {c = c} p l) = cons (sym (ck .symmetric b c (path-below h p) (link-below b c (path-below h p) l)) ∙ l) (turned h p)
 
   path-reach : {a k b : ℕ} → a < n → Path rows a k b → has (reach rows n a k) b ≡ true
   path-reach {a = a} h here = has-start rows n a h
@@ -136,7 +136,7 @@ module _ (rows : List ℕ) (n : ℕ) (ck : Checked rows n) where
       let hc = link-below b c hb l in
       let d = distance-path ha hb e in
       let r = distance-bound ha (on (d .path) l) in
-      let s = distance-bound ha (on (distance-path ha hc (r .2) .path) (sym (ck .both b c hb hc) ∙ l)) in
+      let s = distance-bound ha (on (distance-path ha hc (r .2) .path) (sym (ck .symmetric b c hb hc) ∙ l)) in
       (r .0, r .1, subst (λ (x : ℕ). x ≤ suc (r .0)) (Option·some-injective (s .0) k (sym (s .2) ∙ e)) (s .1), r .2)
 
   -- ---- a node at distance k + 1 has a neighbour at distance k

@@ -9,10 +9,10 @@ use native.Mathlib.Omega.{arith}
 use lib.Dec.{eqb, ltb}
 use lib.Arith.{digits-div, digits-mod}
 use borrow.Author.Tests.{eq-eqb, eqb-true, lt-ltb, ltb-true}
-use Rattle.network.specs.Topology.{beside, rule}
+use Rattle.network.specs.Topology.{beside, linkedIn}
 use Rattle.network.specs.Builders.{rightOrBelow}
 use Rattle.network.specs.declared.topology.Topology.the-variants.{Grid}
-use Rattle.network.proofs.Topologies.{rule-sym}
+use Rattle.network.proofs.Topologies.{links-sym}
 use Rattle.network.proofs.Sets.{same, and-both, or-either, or-right}
 
 or-left : (a b : Bool) → a ≡ true → a || b ≡ true
@@ -36,7 +36,7 @@ module _ (c : ℕ) (h : 0 < c) where
       omega (arith, div-add-mod' i c, div-add-mod' j c, one-mul c)
 
   -- i and j are next to each other in a row or in a column, i first
-  after-by-rows : (i j : ℕ) → rightOrBelow c i j ≡ true → rule (Grid c) 0 i j ≡ true
+  after-by-rows : (i j : ℕ) → rightOrBelow c i j ≡ true → linkedIn (Grid c) 0 i j ≡ true
   after-by-rows i j e =
       ⊎-elim
       (λ p.
@@ -59,7 +59,7 @@ module _ (c : ℕ) (h : 0 < c) where
   in-column : (i j : ℕ) → i % c ≡ j % c → i / c + 1 ≡ j / c → rightOrBelow c i j ≡ true
   in-column i j e l = or-right (eqb (i + 1) j && ltb (i % c + 1) c) (eqb (i + c) j) (eq-eqb (i + c) j (down i j e l))
 
-  either-way : (i j : ℕ) → rule (Grid c) 0 i j ≡ true → rightOrBelow c i j || rightOrBelow c j i ≡ true
+  either-way : (i j : ℕ) → linkedIn (Grid c) 0 i j ≡ true → rightOrBelow c i j || rightOrBelow c j i ≡ true
   either-way i j e =
       ⊎-elim
       (λ p.
@@ -80,8 +80,8 @@ module _ (c : ℕ) (h : 0 < c) where
       second : rightOrBelow c j i ≡ true → rightOrBelow c i j || rightOrBelow c j i ≡ true
       second e = or-right (rightOrBelow c i j) (rightOrBelow c j i) e
 
-  pub grid-rule : (n i j : ℕ) → rightOrBelow c i j || rightOrBelow c j i ≡ rule (Grid c) n i j
-  grid-rule n i j =
+  pub grid-links : (n i j : ℕ) → rightOrBelow c i j || rightOrBelow c j i ≡ linkedIn (Grid c) n i j
+  grid-links n i j =
       same
-      (λ e. ⊎-elim (λ p. after-by-rows i j p) (λ p. rule-sym (Grid c) n i j ∙ after-by-rows j i p) (or-either (rightOrBelow c i j) (rightOrBelow c j i) e))
+      (λ e. ⊎-elim (λ p. after-by-rows i j p) (λ p. links-sym (Grid c) n i j ∙ after-by-rows j i p) (or-either (rightOrBelow c i j) (rightOrBelow c j i) e))
       (either-way i j)

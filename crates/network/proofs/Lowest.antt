@@ -164,7 +164,7 @@ pub record Walked (s rest m : ℕ) : Type 0 where
 pub walked-none : (s : ℕ) → Walked s s 0
 walked-none s = record { part = omega arith; inside = λ j l. refl; after = λ j l. absurd (omega (arith, l)) }
 
-has-zero : (j : ℕ) → has 0 j ≡ false
+pub has-zero : (j : ℕ) → has 0 j ≡ false
 has-zero j = has-out {n = 0} (omega arith) j (omega arith)
 
 pub walked-all : {s m : ℕ} → Walked s 0 m → (j : ℕ) → m ≤ j → has s j ≡ false

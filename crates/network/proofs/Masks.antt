@@ -12,7 +12,7 @@ use lib.Bits.{bitOr, or-lt}
 use lib.Dec.{eqb, leb, ltb, eqb·suc-zero, eqb·zero-suc}
 use lib.Pow.{pow-pos, pow-mono}
 use Rattle.network.specs.Graph.{setOf}
-use Rattle.network.specs.Topology.{ends, child}
+use Rattle.network.specs.Topology.{firstAndLast, child}
 use Rattle.network.proofs.Lowest.{has-less}
 use Rattle.network.proofs.Sets.{same, two, has-or, has-full, has-setOf, setOf-lt, setOf-cong, setOf-one, set-ext}
 use Rattle.network.proofs.Within.{within-both, within-true}
@@ -88,7 +88,7 @@ star-is i j p = sym (ap (λ (x : Bool). (x || eqb j 0) && not (eqb i j)) (ne-eqb
     centre (suc j) = ap (λ (x : Bool). x && not (eqb i (suc j))) (eqb·suc-zero j) ∙ sym (eqb·zero-suc j)
 
 -- ---- where a ring closes
-pub closes : (n i j : ℕ) {a b : Bool} → 2 < n → eqb i 0 ≡ a → eqb (i + 1) n ≡ b → ltb 2 n && (ends n i j || ends n j i) ≡ (a && eqb (j + 1) n || b && eqb j 0)
+pub closes : (n i j : ℕ) {a b : Bool} → 2 < n → eqb i 0 ≡ a → eqb (i + 1) n ≡ b → ltb 2 n && (firstAndLast n i j || firstAndLast n j i) ≡ (a && eqb (j + 1) n || b && eqb j 0)
 closes n i j {a} {b} h p q =
     ap₂ _&&_ (lt-ltb 2 n h) (ap₂ _||_ (ap (λ (x : Bool). x && eqb (j + 1) n) p) (ap (λ (x : Bool). eqb j 0 && x) q ∙ and-comm (eqb j 0) b))
 

@@ -12,8 +12,8 @@ use Rattle.network.specs.Graph.{widened}
 use Rattle.config.specs.Limits.{maxNodes}
 
 -- a loop that copies the first rows over a list
-pub copied-more : (rows d : List ℕ) (i : ℕ) → i < length rows → i < length d → set (take i rows ++ drop i d) i (getD rows i 0) ≡ take (i + 1) rows ++ drop (i + 1) d
-copied-more rows d i h l =
+pub rows-copied : (rows d : List ℕ) (i : ℕ) → i < length rows → i < length d → set (take i rows ++ drop i d) i (getD rows i 0) ≡ take (i + 1) rows ++ drop (i + 1) d
+rows-copied rows d i h l =
     ap (λ (r : List ℕ). set (take i rows ++ r) i (getD rows i 0)) (drop-cons d i 0 l)
     ∙ set-at (take i rows) (getD d i 0) (drop (suc i) d) (getD rows i 0) i (length-take-le i rows (le-of-lt h))
     ∙ sym (append-assoc (take i rows) (getD rows i 0 ∷ []) (drop (suc i) d))
@@ -25,7 +25,7 @@ pub widened-more : (rows : List ℕ) (i : ℕ) → i < length rows → i < maxNo
 unfolding widened
 widened-more rows i h m =
     ap (λ (r : List ℕ). set (take i rows ++ r) i (getD rows i 0)) (sym (dropped maxNodes i))
-    ∙ copied-more rows (replicate maxNodes 0) i h m
+    ∙ rows-copied rows (replicate maxNodes 0) i h m
     ∙ ap (λ (r : List ℕ). take (i + 1) rows ++ r) (dropped maxNodes (i + 1))
   where
     dropped : (m k : ℕ) → drop {A = ℕ} k (replicate m 0) ≡ replicate (m - k) 0

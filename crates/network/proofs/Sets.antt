@@ -49,15 +49,15 @@ beq-refl true b e = ap (Bool·beq true) (sym e)
 beq-refl false b e = ap (Bool·beq false) (sym e)
 
 -- ---- what holds of every number below n + 1 holds of n, and of every one below n
-last : {k n : ℕ} → k < suc n → (k ≡ n) ⊎ (k < n)
-last h = eq-or-lt-of-le (le-of-suc-le-suc h)
+last-or-below : {k n : ℕ} → k < suc n → (k ≡ n) ⊎ (k < n)
+last-or-below h = eq-or-lt-of-le (le-of-suc-le-suc h)
 
 -- ---- `any` and `all`
 pub any-intro : (n : ℕ) (f : ℕ → Bool) (i : ℕ) → i < n → f i ≡ true → any n f ≡ true
 unfolding any
 any-intro zero f i h e = absurd (not-suc-le-zero h)
 any-intro (suc n) f i h e =
-    ⊎-elim (λ p. or-right (any n f) (f n) (ap f (sym p) ∙ e)) (λ l. ap (λ (b : Bool). b || f n) (any-intro n f i l e)) (last h)
+    ⊎-elim (λ p. or-right (any n f) (f n) (ap f (sym p) ∙ e)) (λ l. ap (λ (b : Bool). b || f n) (any-intro n f i l e)) (last-or-below h)
 
 pub any-elim : (n : ℕ) (f : ℕ → Bool) → any n f ≡ true → (i : ℕ) × (i < n) × (f i ≡ true)
 unfolding any
@@ -78,7 +78,7 @@ unfolding all
 all-elim zero f e i h = absurd (not-suc-le-zero h)
 all-elim (suc n) f e i h =
     let r = and-both (all n f) (f n) e in
-    ⊎-elim (λ p. ap f p ∙ r .1) (λ l. all-elim n f (r .0) i l) (last h)
+    ⊎-elim (λ p. ap f p ∙ r .1) (λ l. all-elim n f (r .0) i l) (last-or-below h)
 
 pub all-intro : (n : ℕ) (f : ℕ → Bool) → ((i : ℕ) → i < n → f i ≡ true) → all n f ≡ true
 unfolding all
@@ -162,7 +162,7 @@ has-setOf (suc n) f j h =
     sym (has-low (setOf (suc n) f) n j l)
     ∙ ap (λ (x : ℕ). has x j) (ap (λ (x : ℕ). x % 2 ^ n) (setOf-suc n f) ∙ low (bit n (f n)) n (setOf-lt n f))
     ∙ has-setOf n f j l)
-    (last h)
+    (last-or-below h)
 
 pub setOf-cong : (n : ℕ) {f g : ℕ → Bool} → ((j : ℕ) → j < n → f j ≡ g j) → setOf n f ≡ setOf n g
 unfolding setOf
@@ -219,7 +219,7 @@ setOf-one (suc n) a h =
     (λ l.
     ap₂ (λ (x : ℕ) (b : Bool). x + cond b (2 ^ n) 0) (setOf-one n a l) (ne-eqb n a (λ p. lt-irrefl a (subst (λ (x : ℕ). a < x) p l)))
     ∙ add-zero (2 ^ a))
-    (last h)
+    (last-or-below h)
 
 pub has-one : (n a b : ℕ) → a < n → b < n → has (2 ^ a) b ≡ eqb b a
 has-one n a b ha hb = ap (λ (s : ℕ). has s b) (sym (setOf-one n a ha)) ∙ has-setOf n (λ x. eqb x a) b hb
@@ -268,7 +268,7 @@ count-lt (suc n) f g h j l p q =
     ⊎-elim
     (λ e. omega (arith, count-mono n f g (λ i l. h i (le-step l)), ap {B = ℕ} (λ (b : Bool). cond b 1 0) (ap f (sym e) ∙ p), ap {B = ℕ} (λ (b : Bool). cond b 1 0) (ap g (sym e) ∙ q)))
     (λ m. omega (arith, count-lt n f g (λ i l. h i (le-step l)) j m p q, bits-le (f n) (g n) (h n (le-refl (suc n)))))
-    (last l)
+    (last-or-below l)
 
 -- ---- a set that a loop builds, one node a turn, in a word of w bits
 pub one-shl : (w j : ℕ) → j < w → 1 * 2 ^ j % 2 ^ w ≡ 2 ^ j

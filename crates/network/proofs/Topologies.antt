@@ -13,7 +13,7 @@ use lib.ListN.{getD}
 use borrow.Author.Tests.{eq-eqb, ne-eqb, eqb-true, ltb-true, ltb-false}
 use Rattle.network.specs.Graph.{has, linked, setOf, Checked, Path, here, on}
 use Rattle.network.specs.Distance.{Joined}
-use Rattle.network.specs.Topology.{beside, ends, child, rule, topologyRow, topologyRows}
+use Rattle.network.specs.Topology.{beside, firstAndLast, child, linkedIn, topologyRow, topologyRows}
 use Rattle.network.specs.declared.topology.Topology.{Topology}
 use Rattle.network.specs.declared.topology.Topology.the-variants.{FullMesh, Line, Star, Grid, Ring, Tree}
 use Rattle.network.proofs.Sets.{two, same, and-both, or-right, has-setOf, setOf-lt}
@@ -40,14 +40,14 @@ eqb-comm x y = same (λ e. eq-eqb y x (sym (eqb-true x y e))) (λ e. eq-eqb x y 
 beside-comm : (x y : ℕ) → beside x y ≡ beside y x
 beside-comm x y = or-comm (eqb (x + 1) y) (eqb (y + 1) x)
 
-pub rule-sym : (t : Topology) (n i j : ℕ) → rule t n i j ≡ rule t n j i
-rule-sym FullMesh n i j = ap not (eqb-comm i j)
-rule-sym Line n i j = beside-comm i j
-rule-sym Star n i j = ap₂ _&&_ (or-comm (eqb i 0) (eqb j 0)) (ap not (eqb-comm i j))
-rule-sym (Grid c) n i j =
+pub links-sym : (t : Topology) (n i j : ℕ) → linkedIn t n i j ≡ linkedIn t n j i
+links-sym FullMesh n i j = ap not (eqb-comm i j)
+links-sym Line n i j = beside-comm i j
+links-sym Star n i j = ap₂ _&&_ (or-comm (eqb i 0) (eqb j 0)) (ap not (eqb-comm i j))
+links-sym (Grid c) n i j =
     ap₂ _||_ (ap₂ _&&_ (eqb-comm (i / c) (j / c)) (beside-comm (i % c) (j % c))) (ap₂ _&&_ (eqb-comm (i % c) (j % c)) (beside-comm (i / c) (j / c)))
-rule-sym Ring n i j = ap₂ _||_ (beside-comm i j) (ap (λ (b : Bool). ltb 2 n && b) (or-comm (ends n i j) (ends n j i)))
-rule-sym (Tree b) n i j = or-comm (child b i j) (child b j i)
+links-sym Ring n i j = ap₂ _||_ (beside-comm i j) (ap (λ (b : Bool). ltb 2 n && b) (or-comm (firstAndLast n i j) (firstAndLast n j i)))
+links-sym (Tree b) n i j = or-comm (child b i j) (child b j i)
 
 -- ---- and link no node to itself
 beside-self : (x : ℕ) → beside x x ≡ false
@@ -61,41 +61,41 @@ child-self b i =
     low (inl z) p q = let e = ap (λ (x : ℕ). i * x) z ∙ mul-zero i in omega arith
     low (inr h) p q = omega (arith, le-mul-of-pos-right i h)
 
-pub rule-self : (t : Topology) (n i : ℕ) → rule t n i i ≡ false
-rule-self FullMesh n i = ap not (eq-eqb i i refl)
-rule-self Line n i = beside-self i
-rule-self Star n i = ap (λ (b : Bool). (eqb i 0 || eqb i 0) && not b) (eq-eqb i i refl) ∙ and-false (eqb i 0 || eqb i 0)
-rule-self (Grid c) n i =
+pub links-self : (t : Topology) (n i : ℕ) → linkedIn t n i i ≡ false
+links-self FullMesh n i = ap not (eq-eqb i i refl)
+links-self Line n i = beside-self i
+links-self Star n i = ap (λ (b : Bool). (eqb i 0 || eqb i 0) && not b) (eq-eqb i i refl) ∙ and-false (eqb i 0 || eqb i 0)
+links-self (Grid c) n i =
     ap₂ (λ (x y : Bool). eqb (i / c) (i / c) && x || eqb (i % c) (i % c) && y) (beside-self (i % c)) (beside-self (i / c))
     ∙ ap₂ _||_ (and-false (eqb (i / c) (i / c))) (and-false (eqb (i % c) (i % c)))
-rule-self Ring n i = ap₂ _||_ (beside-self i) (closed (two (ltb 2 n)))
+links-self Ring n i = ap₂ _||_ (beside-self i) (closed (two (ltb 2 n)))
   where
-    closed : (ltb 2 n ≡ true) ⊎ (ltb 2 n ≡ false) → ltb 2 n && (ends n i i || ends n i i) ≡ false
-    closed (inr e) = ap (λ (b : Bool). b && (ends n i i || ends n i i)) e
+    closed : (ltb 2 n ≡ true) ⊎ (ltb 2 n ≡ false) → ltb 2 n && (firstAndLast n i i || firstAndLast n i i) ≡ false
+    closed (inr e) = ap (λ (b : Bool). b && (firstAndLast n i i || firstAndLast n i i)) e
     closed (inl e) =
         let h = ltb-true 2 n e in
-        let q : ends n i i ≡ false =
-        ⊎-elim (λ p. let r = and-both (eqb i 0) (eqb (i + 1) n) p in let z = eqb-true i 0 (r .0) in let w = eqb-true (i + 1) n (r .1) in absurd (omega arith)) (λ p. p) (two (ends n i i)) in
+        let q : firstAndLast n i i ≡ false =
+        ⊎-elim (λ p. let r = and-both (eqb i 0) (eqb (i + 1) n) p in let z = eqb-true i 0 (r .0) in let w = eqb-true (i + 1) n (r .1) in absurd (omega arith)) (λ p. p) (two (firstAndLast n i i)) in
         ap (λ (b : Bool). ltb 2 n && (b || b)) q ∙ and-false (ltb 2 n)
-rule-self (Tree b) n i = ap₂ _||_ (child-self b i) (child-self b i)
+links-self (Tree b) n i = ap₂ _||_ (child-self b i) (child-self b i)
 
 -- ---- the rows hold the rule, and pass the row check
-getD-rows : (t : Topology) (n i : ℕ) → i < n → getD (topologyRows t n) i 0 ≡ setOf n (rule t n i)
+getD-rows : (t : Topology) (n i : ℕ) → i < n → getD (topologyRows t n) i 0 ≡ setOf n (linkedIn t n i)
 unfolding topologyRows topologyRow
 getD-rows t n i h = getD-tabulate n (topologyRow t n) i 0 h
 
-pub linked-rule : (t : Topology) (n i j : ℕ) → i < n → j < n → linked (topologyRows t n) i j ≡ rule t n i j
+pub linked-in : (t : Topology) (n i j : ℕ) → i < n → j < n → linked (topologyRows t n) i j ≡ linkedIn t n i j
 unfolding linked
-linked-rule t n i j hi hj = ap (λ (s : ℕ). has s j) (getD-rows t n i hi) ∙ has-setOf n (rule t n i) j hj
+linked-in t n i j hi hj = ap (λ (s : ℕ). has s j) (getD-rows t n i hi) ∙ has-setOf n (linkedIn t n i) j hj
 
 pub rows-checked : (t : Topology) (n : ℕ) → Checked (topologyRows t n) n
 unfolding topologyRows
 rows-checked t n =
     record {
       enough = le-of-eq (sym (length-tabulate n (topologyRow t n)));
-      narrow = λ i h. subst (λ (s : ℕ). s < 2 ^ n) (sym (getD-rows t n i h)) (setOf-lt n (rule t n i));
-      apart = λ i h. linked-rule t n i i h h ∙ rule-self t n i;
-      both = λ i j hi hj. linked-rule t n i j hi hj ∙ rule-sym t n i j ∙ sym (linked-rule t n j i hj hi);
+      narrow = λ i h. subst (λ (s : ℕ). s < 2 ^ n) (sym (getD-rows t n i h)) (setOf-lt n (linkedIn t n i));
+      loopless = λ i h. linked-in t n i i h h ∙ links-self t n i;
+      symmetric = λ i j hi hj. linked-in t n i j hi hj ∙ links-sym t n i j ∙ sym (linked-in t n j i hj hi);
     }
 
 pub rows-pass : (t : Topology) (n : ℕ) → question4 (topologyRows t n) n ≡ true
@@ -131,13 +131,13 @@ Branched (Tree b) = 0 < b
 next-beside : (m : ℕ) → beside m (suc m) ≡ true
 next-beside m = ap (λ (b : Bool). b || eqb (suc m + 1) m) (eq-eqb (m + 1) (suc m) (add-one m))
 
-grid-above : (c n j : ℕ) → 0 < c → rule (Grid c) n j (j + c) ≡ true
+grid-above : (c n j : ℕ) → 0 < c → linkedIn (Grid c) n j (j + c) ≡ true
 grid-above c n j h =
     or-right (eqb (j / c) ((j + c) / c) && beside (j % c) ((j + c) % c)) (eqb (j % c) ((j + c) % c) && beside (j / c) ((j + c) / c))
     (ap₂ _&&_ (eq-eqb (j % c) ((j + c) % c) (sym (add-mod-right j c)))
     (ap (beside (j / c)) (add-div-right j h ∙ add-one (j / c)) ∙ next-beside (j / c)))
 
-grid-left : (c n m : ℕ) → suc m < c → rule (Grid c) n m (suc m) ≡ true
+grid-left : (c n m : ℕ) → suc m < c → linkedIn (Grid c) n m (suc m) ≡ true
 grid-left c n m h =
     let l = le-of-lt h in
     ap (λ (b : Bool). b || eqb (m % c) (suc m % c) && beside (m / c) (suc m / c))
@@ -145,7 +145,7 @@ grid-left c n m h =
     (ap₂ beside (mod-eq-of-lt l) (mod-eq-of-lt h) ∙ next-beside m))
 
 -- the lower node to which the rule links i
-parent : (t : Topology) (n i : ℕ) → Branched t → 0 < i → (j : ℕ) × (j < i) × (rule t n j i ≡ true)
+parent : (t : Topology) (n i : ℕ) → Branched t → 0 < i → (j : ℕ) × (j < i) × (linkedIn t n j i ≡ true)
 parent t n zero br h = absurd (not-suc-le-zero h)
 parent FullMesh n (suc m) br h = (0, zero-lt-suc m, ap not (ne-eqb 0 (suc m) (ne-of-lt (zero-lt-suc m))))
 parent Line n (suc m) br h = (m, le-refl (suc m), next-beside m)
@@ -155,9 +155,9 @@ parent (Grid c) n (suc m) br h =
     (λ e. (m, le-refl (suc m), grid-left c n m (ltb-true (suc m) c e)))
     (λ e.
     let l = ltb-false (suc m) c e in
-    (suc m - c, omega arith, subst (λ (x : ℕ). rule (Grid c) n (suc m - c) x ≡ true) (sub-add-cancel l) (grid-above c n (suc m - c) br)))
+    (suc m - c, omega arith, subst (λ (x : ℕ). linkedIn (Grid c) n (suc m - c) x ≡ true) (sub-add-cancel l) (grid-above c n (suc m - c) br)))
     (two (ltb (suc m) c))
-parent Ring n (suc m) br h = (m, le-refl (suc m), ap (λ (b : Bool). b || ltb 2 n && (ends n m (suc m) || ends n (suc m) m)) (next-beside m))
+parent Ring n (suc m) br h = (m, le-refl (suc m), ap (λ (b : Bool). b || ltb 2 n && (firstAndLast n m (suc m) || firstAndLast n (suc m) m)) (next-beside m))
 parent (Tree b) n (suc m) br h = (
   m / b,
   suc-le-suc (div-le-self m b),
@@ -168,4 +168,4 @@ parent (Tree b) n (suc m) br h = (
 pub rows-joined : (t : Topology) (n : ℕ) → Branched t → Joined (topologyRows t n) n
 rows-joined t n br =
     lower-joined (topologyRows t n) n (rows-checked t n)
-    (λ i h l. let r = parent t n i br h in (r .0, r .1, linked-rule t n (r .0) i (lt-trans (r .1) l) l ∙ r .2))
+    (λ i h l. let r = parent t n i br h in (r .0, r .1, linked-in t n (r .0) i (lt-trans (r .1) l) l ∙ r .2))

@@ -9,7 +9,7 @@ use Prim.Native.Nat.{ℕ, _≤_}
 use native.Mathlib.Omega.{arith}
 use borrow.Author.Tests.{leb-true, le-leb}
 use lib.Dec.{eqb, leb}
-use Rattle.config.specs.Limits.{maxNodes}
+use Rattle.config.specs.Limits.{minNodes, maxNodes}
 use Rattle.network.specs.Questions.{within, firstNo, nodesOf, question1, question2, question3, topologyQuestions}
 use Rattle.network.proofs.Sets.{and-both, two}
 
@@ -44,8 +44,8 @@ all-yes [] more e = refl
 all-yes (q ∷ qs) more e = let r = first-yes q qs e in rw (r .0) (all-yes qs more (r .1))
 
 -- question 2 of the nodes
-pub topology-nodes : (topology first second : ℕ) → firstNo (topologyQuestions topology first second) ≡ none → within 2 maxNodes (nodesOf topology first second) ≡ true
+pub topology-nodes : (topology first second : ℕ) → firstNo (topologyQuestions topology first second) ≡ none → within minNodes maxNodes (nodesOf topology first second) ≡ true
 topology-nodes topology first second e =
     let rest = first-yes (question1 topology, 1) ((question2 topology first second, 2) ∷ (question3 topology second, 3) ∷ []) e .1 in
-    and-both (not (eqb topology 4) || within 1 maxNodes first && within 1 maxNodes second) (within 2 maxNodes (nodesOf topology first second))
+    and-both (not (eqb topology 4) || within 1 maxNodes first && within 1 maxNodes second) (within minNodes maxNodes (nodesOf topology first second))
     (first-yes (question2 topology first second, 2) ((question3 topology second, 3) ∷ []) rest .0) .1

@@ -3,7 +3,7 @@ use mathlib.Core.Bool.{Bool, _&&_, _||_}
 use mathlib.Core.List.{[], _∷_}
 use Prim.Native.Nat.{ℕ, _+_, _%_, _≤_, _<_}
 use lib.Dec.{eqb, leb, ltb}
-use Rattle.config.specs.Limits.{maxNodes, maxBranching}
+use Rattle.config.specs.Limits.{minNodes, maxNodes, maxBranching}
 use Rattle.network.specs.Questions.{within, firstNo}
 use Rattle.network.specs.Topology.{graphAs}
 use Rattle.network.specs.declared.topology.Topology.{Topology}
@@ -12,7 +12,7 @@ use Rattle.network.specs.declared.topology.BuiltGraph.{BuiltGraph}
 
 -- What a builder gives after question 1, where the second number may be at most `most`.
 abbrev pub askedGraph : Topology → ℕ → ℕ → ℕ → BuiltGraph
-askedGraph t n second most = graphAs t n (firstNo ((within 2 maxNodes n, 2) ∷ (leb second most, 3) ∷ []))
+askedGraph t n second most = graphAs t n (firstNo ((within minNodes maxNodes n, 2) ∷ (leb second most, 3) ∷ []))
 
 -- In rows of c, j is the node to the right of i or the one below it: a grid is built from these links, each in both directions.
 abbrev pub rightOrBelow : ℕ → ℕ → ℕ → Bool

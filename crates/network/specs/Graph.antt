@@ -74,5 +74,5 @@ rowBacked rows n i = ltb (getD rows i 0) (2 ^ n) && not (linked rows i i) && bac
 pub record Checked (rows : List ℕ) (n : ℕ) : Type 0 where
   pub enough : n ≤ length rows
   pub narrow : (i : ℕ) → i < n → getD rows i 0 < 2 ^ n
-  pub apart : (i : ℕ) → i < n → linked rows i i ≡ false
-  pub both : (i j : ℕ) → i < n → j < n → linked rows i j ≡ linked rows j i
+  pub loopless : (i : ℕ) → i < n → linked rows i i ≡ false
+  pub symmetric : (i j : ℕ) → i < n → j < n → linked rows i j ≡ linked rows j i

@@ -6,7 +6,7 @@ use Prim.Native.Nat.{ℕ, _*_}
 use lib.Dec.{eqb, leb}
 use lib.ListN.{length}
 use Rattle.network.specs.Graph.{rowsRight}
-use Rattle.config.specs.Limits.{maxNodes, maxBranching}
+use Rattle.config.specs.Limits.{minNodes, maxNodes, maxBranching}
 
 -- lo ≤ x ≤ hi
 abbrev pub within : ℕ → ℕ → ℕ → Bool
@@ -29,7 +29,7 @@ question1 topology = within 1 6 topology
 abbrev pub question2 : ℕ → ℕ → ℕ → Bool
 question2 topology first second =
     (not (eqb topology 4) || within 1 maxNodes first && within 1 maxNodes second)
-    && within 2 maxNodes (nodesOf topology first second)
+    && within minNodes maxNodes (nodesOf topology first second)
 
 -- Question 3: is the second number 0 to 32 for a tree and 0 for 1, 2, 3, 5?
 abbrev pub question3 : ℕ → ℕ → Bool
@@ -46,4 +46,4 @@ topologyQuestions topology first second =
     (question1 topology, 1) ∷ (question2 topology first second, 2) ∷ (question3 topology second, 3) ∷ []
 
 abbrev pub rowsQuestions : List ℕ → ℕ → List (Bool × ℕ)
-rowsQuestions rows n = (within 2 maxNodes n, 2) ∷ (question4 rows n, 4) ∷ []
+rowsQuestions rows n = (within minNodes maxNodes n, 2) ∷ (question4 rows n, 4) ∷ []

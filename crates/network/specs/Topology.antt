@@ -20,8 +20,8 @@ abbrev pub beside : ℕ → ℕ → Bool
 beside x y = eqb (x + 1) y || eqb (y + 1) x
 
 -- i is the first and j the last of n nodes.
-abbrev pub ends : ℕ → ℕ → ℕ → Bool
-ends n i j = eqb i 0 && eqb (j + 1) n
+abbrev pub firstAndLast : ℕ → ℕ → ℕ → Bool
+firstAndLast n i j = eqb i 0 && eqb (j + 1) n
 
 -- j is i times b + k for a k in 1 to b.
 abbrev pub child : ℕ → ℕ → ℕ → Bool
@@ -30,18 +30,18 @@ child b i j = within (i * b + 1) (i * b + b) j
 -- Nodes i and j of the topology with n nodes are linked. A grid's number is its columns: node i stands in row i / c and column
 -- i % c, and is linked to those beside it in its row and in its column. A ring is a line that closes above 2 nodes. A tree's number
 -- is its branching factor.
-abbrev pub rule : Topology → ℕ → ℕ → ℕ → Bool
-rule FullMesh n i j = not (eqb i j)
-rule Line n i j = beside i j
-rule Star n i j = (eqb i 0 || eqb j 0) && not (eqb i j)
-rule (Grid c) n i j = eqb (i / c) (j / c) && beside (i % c) (j % c) || eqb (i % c) (j % c) && beside (i / c) (j / c)
-rule Ring n i j = beside i j || ltb 2 n && (ends n i j || ends n j i)
-rule (Tree b) n i j = child b i j || child b j i
+abbrev pub linkedIn : Topology → ℕ → ℕ → ℕ → Bool
+linkedIn FullMesh n i j = not (eqb i j)
+linkedIn Line n i j = beside i j
+linkedIn Star n i j = (eqb i 0 || eqb j 0) && not (eqb i j)
+linkedIn (Grid c) n i j = eqb (i / c) (j / c) && beside (i % c) (j % c) || eqb (i % c) (j % c) && beside (i / c) (j / c)
+linkedIn Ring n i j = beside i j || ltb 2 n && (firstAndLast n i j || firstAndLast n j i)
+linkedIn (Tree b) n i j = child b i j || child b j i
 
 -- Row i of a topology: the set of the nodes that its rule links to i.
 unfoldable pub topologyRow : Topology → ℕ → ℕ → ℕ
 unfolding setOf
-topologyRow t n i = setOf n (rule t n i)
+topologyRow t n i = setOf n (linkedIn t n i)
 
 unfoldable pub topologyRows : Topology → ℕ → List ℕ
 unfolding tabulate topologyRow

@@ -9,6 +9,7 @@ use crate::graph;
 use crate::questions::lies_in;
 use crate::units::NodeId;
 use config::limits::MAX_NODES;
+use config::limits::MIN_NODES;
 
 // What asking for a diameter answers: the number of links, or the number of the question that was answered "no".
 pub enum Measured {
@@ -76,7 +77,7 @@ pub fn diameter_of(rows: &[u64; MAX_NODES], n: usize) -> usize
 pub fn diameter(rows: &[u32], n: u64) -> Measured
     ensures { λ r. ⌜ r ≡ measured (now (rows .entry)) n ⌝ }
 {
-    if !lies_in(2, MAX_NODES as u64, n) {
+    if !lies_in(MIN_NODES, MAX_NODES as u64, n) {
         return Measured::Refused(2);
     }
     let nodes = n as usize;

@@ -7,11 +7,12 @@ ghost use Rattle.config.specs.Limits.{maxNodes};
 ghost use Rattle.network.specs.Graph.{widened};
 ghost use Rattle.network.specs.Topology.{topologyRows, builtRows, refusedGraph, builtGraph};
 ghost use Rattle.network.specs.Builders.{askedGraph, Sized, Askable};
+use crate::neighbours::row;
 use crate::questions::lies_in;
-use crate::rule::row;
 use crate::units::NodeId;
 use config::limits::MAX_BRANCHING;
 use config::limits::MAX_NODES;
+use config::limits::MIN_NODES;
 
 // A topology, a grid with its columns and a tree with its branching factor.
 pub enum Topology {
@@ -62,7 +63,7 @@ fn asked(t: Topology, nodes: u64, second: u64, most: u64) -> BuiltGraph
     requires { ⌜ Askable t second most ⌝ }
     ensures { λ r. ⌜ r ≡ askedGraph t nodes second most ⌝ }
 {
-    if !lies_in(2, MAX_NODES as u64, nodes) {
+    if !lies_in(MIN_NODES, MAX_NODES as u64, nodes) {
         return refused(2);
     }
     if most < second {

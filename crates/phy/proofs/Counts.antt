@@ -35,9 +35,9 @@ slots-most g (suc left) s =
     (two (ltb 0 (howMany isFlooding (slotStep g s .nodes) (g .nodes))))
 
 -- a round has at most its limit's slots
-pub round-most : (g : Setup) (limit initiator : ℕ) (packet : Packet) (s : Standing) → round g limit initiator packet s .after .slot ≤ s .slot + limit
+pub round-most : (g : Setup) (longest initiator : ℕ) (packet : Packet) (s : Standing) → round g longest initiator packet s .after .slot ≤ s .slot + longest
 unfolding round
-round-most g limit initiator packet s = slots-most g limit (withNodes (begun (g .nodes) (g .repeats) initiator packet (s .nodes)) s)
+round-most g longest initiator packet s = slots-most g longest (withNodes (begun (g .nodes) (g .repeats) initiator packet (s .nodes)) s)
 
 -- ---- one node's counts: from s to t they grow by the slots between
 abbrev pub Counted : ℕ → Standing → Standing → Type 0
@@ -51,15 +51,15 @@ pub counted-slots : (g : Setup) (left : ℕ) (s : Standing) → Counted (g .node
 counted-slots g =
     along-slots g (Counted (g .nodes)) (λ s j h. refl) (λ s t more j h. omega (arith, more j h, counted-slot g s j h))
 
-pub counted-round : (g : Setup) (limit initiator : ℕ) (packet : Packet) (s : Standing) → Counted (g .nodes) s (round g limit initiator packet s .after)
+pub counted-round : (g : Setup) (longest initiator : ℕ) (packet : Packet) (s : Standing) → Counted (g .nodes) s (round g longest initiator packet s .after)
 unfolding round
-counted-round g limit initiator packet s j h =
+counted-round g longest initiator packet s j h =
     let first : Standing = withNodes (begun (g .nodes) (g .repeats) initiator packet (s .nodes)) s in
     omega (
       arith,
       total-begun (g .nodes) (g .repeats) initiator packet (s .nodes) j h,
-      counted-slots g limit first j h,
-      total-delivered (g .nodes) packet (slots g limit first .nodes) j h,
+      counted-slots g longest first j h,
+      total-delivered (g .nodes) packet (slots g longest first .nodes) j h,
     )
 
 -- ---- sums over the first n nodes
@@ -81,21 +81,21 @@ sum-each f nodes zero k h = omega arith
 sum-each f nodes (suc n) k h = omega (arith, sum-each f nodes n k (λ j b. h j (omega arith)), h n (omega arith))
 
 -- where each of n nodes has f grown by k
-pub sum-grown : (f : Node → ℕ) (before after : List Node) (n k : ℕ) → ((j : ℕ) → j < n → f (at after j) ≡ f (at before j) + k) → sumOf f after n ≡ sumOf f before n + n * k
+pub sum-grown-alike : (f : Node → ℕ) (before after : List Node) (n k : ℕ) → ((j : ℕ) → j < n → f (at after j) ≡ f (at before j) + k) → sumOf f after n ≡ sumOf f before n + n * k
 unfolding sumOf
-sum-grown f before after zero k h = omega arith
-sum-grown f before after (suc n) k h = omega (arith, sum-grown f before after n k (λ j b. h j (omega arith)), h n (omega arith))
+sum-grown-alike f before after zero k h = omega arith
+sum-grown-alike f before after (suc n) k h = omega (arith, sum-grown-alike f before after n k (λ j b. h j (omega arith)), h n (omega arith))
 
 -- where each node has counted k slots
 pub all-slots : (nodes : List Node) (n k : ℕ) → ((j : ℕ) → j < n → total (at nodes j) ≡ k) → allSlots nodes n ≡ n * k
 all-slots nodes n k h = all-total nodes n ∙ sum-each total nodes n k h
 
 -- over all nodes, listening, flooding and sleeping slots grow by nodes times slots
-pub all-slots-round : (g : Setup) (limit initiator : ℕ) (packet : Packet) (s : Standing) (k : ℕ)
-    → round g limit initiator packet s .after .slot ≡ s .slot + k
-    → allSlots (round g limit initiator packet s .after .nodes) (g .nodes) ≡ allSlots (s .nodes) (g .nodes) + g .nodes * k
-all-slots-round g limit initiator packet s k e =
-    let after : Standing = round g limit initiator packet s .after in
+pub all-slots-round : (g : Setup) (longest initiator : ℕ) (packet : Packet) (s : Standing) (k : ℕ)
+    → round g longest initiator packet s .after .slot ≡ s .slot + k
+    → allSlots (round g longest initiator packet s .after .nodes) (g .nodes) ≡ allSlots (s .nodes) (g .nodes) + g .nodes * k
+all-slots-round g longest initiator packet s k e =
+    let after : Standing = round g longest initiator packet s .after in
     all-total (after .nodes) (g .nodes)
-    ∙ sum-grown total (s .nodes) (after .nodes) (g .nodes) k (λ j h. omega (arith, e, counted-round g limit initiator packet s j h))
+    ∙ sum-grown-alike total (s .nodes) (after .nodes) (g .nodes) k (λ j h. omega (arith, e, counted-round g longest initiator packet s j h))
     ∙ ap (λ (x : ℕ). x + g .nodes * k) (sym (all-total (s .nodes) (g .nodes)))

@@ -81,7 +81,7 @@ pub due-slots : (g : Setup) → 1 ≤ g .interval → (left : ℕ) (s : Standing
 due-slots g pos =
     along-slots g (λ s t. Due (g .interval) (s .slot) (s .shots) → Due (g .interval) (t .slot) (t .shots)) (λ s due. due) (λ s t more due. more (due-step g s pos due))
 
-pub due-round : (g : Setup) (limit initiator : ℕ) (packet : Packet) (s : Standing) → 1 ≤ g .interval
-    → Due (g .interval) (s .slot) (s .shots) → Due (g .interval) (round g limit initiator packet s .after .slot) (round g limit initiator packet s .after .shots)
+pub due-round : (g : Setup) (longest initiator : ℕ) (packet : Packet) (s : Standing) → 1 ≤ g .interval
+    → Due (g .interval) (s .slot) (s .shots) → Due (g .interval) (round g longest initiator packet s .after .slot) (round g longest initiator packet s .after .shots)
 unfolding round
-due-round g limit initiator packet s pos due = due-slots g pos limit (withNodes (begun (g .nodes) (g .repeats) initiator packet (s .nodes)) s) due
+due-round g longest initiator packet s pos due = due-slots g pos longest (withNodes (begun (g .nodes) (g .repeats) initiator packet (s .nodes)) s) due

@@ -19,7 +19,7 @@ use Rattle.phy.specs.declared.node.NodeState.{NodeState}
 use Rattle.phy.specs.declared.node.Payload.{Payload}
 use Rattle.phy.specs.declared.packet.Packet.{Packet}
 use Rattle.config.specs.declared.RoundSlots.{RoundSlots}
-use Rattle.phy.specs.Packets.{holds}
+use Rattle.phy.specs.Packets.{payloadIs}
 use Rattle.phy.specs.Node.{new, transition, holding, begunBy, deliveredTo, listens, floods, sleeps, isFlooding, isSleeping}
 use Rattle.phy.specs.Slot.{Setup, Standing, at, howMany, ticked, triesIn, slotStep}
 use Rattle.phy.specs.Round.{lengthLimit, Flooded, begun, delivered, participants, coverage, withNodes, slots, round}
@@ -201,12 +201,12 @@ pub record Lossless (g : Setup) (a : ℕ) (packet : Packet) (s : Standing) (r : 
 
 -- The lossless round. Premises: the rows pass the row check; paths join all nodes; the initiator is one of the nodes; a node floods in
 -- at least one slot; the limit leaves room for e + repeats slots; and every attempt of the round is heard.
-pub lossless-round : (g : Setup) (limit a : ℕ) (packet : Packet) (s : Standing)
-    → Checked (g .rows) (g .nodes) → Joined (g .rows) (g .nodes) → a < g .nodes → 1 ≤ g .repeats → eccentricity (g .rows) (g .nodes) a + g .repeats ≤ limit
-    → NoneLost (g .heard) s (round g limit a packet s .after)
-    → Lossless g a packet s (round g limit a packet s)
+pub lossless-round : (g : Setup) (longest a : ℕ) (packet : Packet) (s : Standing)
+    → Checked (g .rows) (g .nodes) → Joined (g .rows) (g .nodes) → a < g .nodes → 1 ≤ g .repeats → eccentricity (g .rows) (g .nodes) a + g .repeats ≤ longest
+    → NoneLost (g .heard) s (round g longest a packet s .after)
+    → Lossless g a packet s (round g longest a packet s)
 unfolding round delivered participants coverage
-lossless-round g limit a packet s ck joined ha pos enough all =
+lossless-round g longest a packet s ck joined ha pos enough all =
     record {
       length = omega (arith, wave .0);
       listened = λ j h. ap (λ (v : Node). v .«slots_listen») (node j h) ∙ ends j h .listened;
@@ -215,21 +215,21 @@ lossless-round g limit a packet s ck joined ha pos enough all =
       asleep = λ j h. asleep j h;
       held = λ j h. ap (λ (v : Node). v .payload) (node j h);
       part = setOf-cong (g .nodes) (λ j h. rw (asleep j h) (or-true (eqb j a)));
-      covered = count-all (g .nodes) (λ (j : ℕ). holds packet (at after j .payload)) (λ j h. ap (λ (v : Node). holds packet (v .payload)) (node j h) ∙ same-packet-itself packet);
-      tries = none-lost (tallied-round g limit a packet s) all;
+      covered = count-all (g .nodes) (λ (j : ℕ). payloadIs packet (at after j .payload)) (λ j h. ap (λ (v : Node). payloadIs packet (v .payload)) (node j h) ∙ same-packet-itself packet);
+      tries = none-lost (tallied-round g longest a packet s) all;
     }
   where
     first : Standing
     first = withNodes (begun (g .nodes) (g .repeats) a packet (s .nodes)) s
 
     ended : Standing
-    ended = slots g limit first
+    ended = slots g longest first
 
     after : List Node
     after = delivered (g .nodes) packet (ended .nodes)
 
     wave : (ended .slot + 0 ≡ s .slot + (lasts g a)) × Wave g a (s .nodes) (lasts g a) (ended .nodes)
-    wave = wave-slots g a ck joined ha pos (s .nodes) limit 0 first (wave-begins g a ck joined ha pos (s .nodes) packet) (omega arith) (omega arith) all
+    wave = wave-slots g a ck joined ha pos (s .nodes) longest 0 first (wave-begins g a ck joined ha pos (s .nodes) packet) (omega arith) (omega arith) all
 
     ends : (j : ℕ) → j < g .nodes → Slept (at (s .nodes) j) (linksIn g a j) (g .repeats) (lasts g a) (at (ended .nodes) j)
     ends j h = sleeps-then (wave .1 j h) pos (omega (arith, away-most (g .rows) (g .nodes) a ck joined ha j h))
@@ -244,12 +244,12 @@ lossless-round g limit a packet s ck joined ha pos enough all =
     asleep j h = ap isSleeping (node j h) ∙ ap sleeps (ends j h .asleep)
 
 -- where attempts and successes grow by the same number
-pub lossless-tries : (g : Setup) (limit a : ℕ) (packet : Packet) (s : Standing)
-    → Checked (g .rows) (g .nodes) → Joined (g .rows) (g .nodes) → a < g .nodes → 1 ≤ g .repeats → eccentricity (g .rows) (g .nodes) a + g .repeats ≤ limit
-    → Even s (round g limit a packet s .after)
-    → Lossless g a packet s (round g limit a packet s)
-lossless-tries g limit a packet s ck joined ha pos enough e =
-    lossless-round g limit a packet s ck joined ha pos enough (all-heard (tallied-round g limit a packet s) e)
+pub lossless-tries : (g : Setup) (longest a : ℕ) (packet : Packet) (s : Standing)
+    → Checked (g .rows) (g .nodes) → Joined (g .rows) (g .nodes) → a < g .nodes → 1 ≤ g .repeats → eccentricity (g .rows) (g .nodes) a + g .repeats ≤ longest
+    → Even s (round g longest a packet s .after)
+    → Lossless g a packet s (round g longest a packet s)
+lossless-tries g longest a packet s ck joined ha pos enough e =
+    lossless-round g longest a packet s ck joined ha pos enough (all-heard (tallied-round g longest a packet s) e)
 
 -- a length that is not configured leaves room for such a round
 pub limit-enough : (diameter repeats : ℕ) → 1 ≤ repeats → diameter + repeats ≤ lengthLimit RoundSlots.Absent diameter repeats

@@ -3,13 +3,14 @@ use Prim.Native.Nat.{ℕ, zero, suc, _+_, _*_, _/_, _%_, _^_, _≤_, _<_}
 use mathlib.Core.Path.{_≡_, refl, sym, ap, subst, _∙_}
 use mathlib.Core.Bool.{Bool, true, false, cond, _&&_, _||_, and-false, or-false, or-comm}
 use mathlib.Core.Logic.{⊎-elim}
-use native.Mathlib.Nat.{mod-lt, not-suc-le-zero, le-of-suc-le-suc, zero-div, eq-or-lt-of-le, add-zero}
+use native.Mathlib.Nat.{mod-lt, not-suc-le-zero, le-of-suc-le-suc, eq-or-lt-of-le, add-zero}
 use native.Mathlib.Omega.{arith}
 use lib.Dec.{eqb}
 use lib.Bits.{bitAnd, bitOr, and-shr, and-mod, and-lt, or-lt, or-disjoint}
 use lib.Pow.{pow-pos, pow-lt}
 use borrow.Author.Tests.{eqb-true}
 use Rattle.network.specs.Graph.{has, setOf}
+use Rattle.network.proofs.Lowest.{has-zero}
 use Rattle.network.proofs.Sets.{two, has-or, has-one, set-ext, setOf-cong, setOf-has, one-shl}
 use Rattle.phy.specs.Slot.{insert}
 
@@ -26,10 +27,6 @@ has-and s t j =
     digit (suc zero) (suc zero) hx hy = refl
     digit (suc zero) (suc (suc y)) hx hy = absurd (not-suc-le-zero (le-of-suc-le-suc (le-of-suc-le-suc hy)))
     digit (suc (suc x)) y hx hy = absurd (not-suc-le-zero (le-of-suc-le-suc (le-of-suc-le-suc hx)))
-
-pub has-zero : (j : ℕ) → has 0 j ≡ false
-unfolding has
-has-zero j = ap (λ (x : ℕ). eqb (x % 2) 1) (zero-div (2 ^ j))
 
 module _ (w : ℕ) {s j : ℕ} (small : s < 2 ^ w) (in-word : j < w) where
   or-bit : bitOr s (2 ^ j) ≡ insert j s

@@ -22,7 +22,7 @@ use Rattle.phy.specs.Round.{begun, delivered}
 
 -- ---- one node
 
-pub tick-state : (v : Node) → tick v .state ≡ v .state
+tick-state : (v : Node) → tick v .state ≡ v .state
 unfolding tick
 tick-state v = go (v .state)
   where
@@ -30,6 +30,12 @@ tick-state v = go (v .state)
     go Listen = refl
     go Flood = refl
     go Sleep = refl
+
+-- a slot, by the node's state before it
+pub onward-is : (r : ℕ) (heard : Bool) (v : Node) (s : NodeState) → v .state ≡ s → transition r heard (tick v) ≡ transitionIn s r heard (tickIn s v)
+unfolding transition tick
+onward-is r heard v s e =
+    ap (λ (x : NodeState). transitionIn x r heard (tick v)) (tick-state v ∙ e) ∙ ap (λ (x : NodeState). transitionIn s r heard (tickIn x v)) e
 
 pub tick-total : (v : Node) → total (tick v) ≡ total v + 1
 unfolding tick

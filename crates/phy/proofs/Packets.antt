@@ -15,7 +15,7 @@ use Rattle.phy.specs.Packets.{Part, nackPart, acceptedPart, dataPart, ba
 
 -- ---- a part tells what it is a part of
 abbrev pick : {A : Type 0} → A → (Term → A) → Part → A
-pick none some x = cond (eqb (x .given) 0) none (some (record { 0 = x .term }))
+pick none some x = cond (eqb (x .present) 0) none (some (record { 0 = x .term }))
 
 by-part : {A : Type 0} (part : A → Part) (none : A) (some : Term → A) → ((a : A) → pick none some (part a) ≡ a) → (a b : A) → part a ≡ part b → a ≡ b
 by-part part none some back a b e = sym (back a) ∙ ap (pick none some) e ∙ back b
@@ -65,7 +65,7 @@ module _ (p q : Packet)
       }
 
 part-equal : (x y : Part) → samePart x y ≡ true → x ≡ y
-part-equal x y e = let both = and-both (eqb (x .given) (y .given)) (eqb (x .term) (y .term)) e in λ i. record { given = eqb-true (x .given) (y .given) (both .0) i; term = eqb-true (x .term) (y .term) (both .1) i }
+part-equal x y e = let both = and-both (eqb (x .present) (y .present)) (eqb (x .term) (y .term)) e in λ i. record { present = eqb-true (x .present) (y .present) (both .0) i; term = eqb-true (x .term) (y .term) (both .1) i }
 
 pub same-packet-equal : (p q : Packet) → samePacket p q ≡ true → p ≡ q
 unfolding samePacket
@@ -80,7 +80,7 @@ same-packet-equal p q e =
     packet-equal p q (eqb-true _ _ (a .0)) (eqb-true _ _ (a .1)) (eqb-true _ _ (b .0)) (part-equal _ _ (b .1)) (part-equal _ _ (c .0)) (part-equal _ _ (c .1)) (part-equal _ _ (d .0)) (part-equal _ _ (d .1))
 
 part-itself : (x : Part) → samePart x x ≡ true
-part-itself x = ap₂ _&&_ (eq-eqb (x .given) (x .given) refl) (eq-eqb (x .term) (x .term) refl)
+part-itself x = ap₂ _&&_ (eq-eqb (x .present) (x .present) refl) (eq-eqb (x .term) (x .term) refl)
 
 -- a packet passes the test with itself
 pub same-packet-itself : (p : Packet) → samePacket p p ≡ true

@@ -12,7 +12,7 @@ use Rattle.phy.specs.declared.node.NodeState.{NodeState}
 use Rattle.phy.specs.declared.node.NodeState.the-variants.{Listen, Flood, Sleep}
 use Rattle.phy.specs.declared.node.Payload.{Payload}
 use Rattle.phy.specs.declared.packet.Packet.{Packet}
-use Rattle.phy.specs.Packets.{holds}
+use Rattle.phy.specs.Packets.{payloadIs}
 use Rattle.phy.specs.Node.{new, tick, tickIn, transition, transitionIn, holding, begunBy, deliveredTo, sleeps, isSleeping}
 use Rattle.phy.specs.Slot.{Setup, Standing, at, ticked, triesIn, slotStep}
 use Rattle.phy.specs.Round.{begun, delivered, participants, coverage, withNodes, slots, round}
@@ -57,20 +57,20 @@ payload-slots g =
     (λ s j h. refl) (λ s t more j h. more j h ∙ payload-slot g s j h)
 
 -- ---- one round
-module _ (g : Setup) (limit initiator : ℕ) (packet : Packet) (s : Standing) where
+module _ (g : Setup) (longest initiator : ℕ) (packet : Packet) (s : Standing) where
   -- who took no part is not the initiator
-  pub part-others : (j : ℕ) → j < g .nodes → has (round g limit initiator packet s .part) j ≡ false → j ≡ initiator → ⊥
+  pub part-others : (j : ℕ) → j < g .nodes → has (round g longest initiator packet s .part) j ≡ false → j ≡ initiator → ⊥
   unfolding round participants
   part-others j h out e = never (has-setOf (g .nodes) _ j h ∙ rw (eq-eqb j initiator e)) out
 
   -- who took part holds the packet, every other node what it held
   pub payload-round : (j : ℕ) → j < g .nodes
-      → at (round g limit initiator packet s .after .nodes) j .payload
-      ≡ cond (has (round g limit initiator packet s .part) j) (Payload.Of packet) (at (s .nodes) j .payload)
+      → at (round g longest initiator packet s .after .nodes) j .payload
+      ≡ cond (has (round g longest initiator packet s .part) j) (Payload.Of packet) (at (s .nodes) j .payload)
   unfolding round participants delivered begun
   payload-round j h =
       ap (λ (x : Node). x .payload) got
-      ∙ go (eqb j initiator) (isSleeping v) (payload-slots g limit first j h ∙ ap (λ (x : Node). x .payload) (getD-tabulate (g .nodes) _ j new h))
+      ∙ go (eqb j initiator) (isSleeping v) (payload-slots g longest first j h ∙ ap (λ (x : Node). x .payload) (getD-tabulate (g .nodes) _ j new h))
       ∙ ap (λ (b : Bool). cond b (Payload.Of packet) (at (s .nodes) j .payload))
       (sym (has-setOf (g .nodes) _ j h ∙ ap (λ (x : NodeState). eqb j initiator || sleeps x) (ap (λ (x : Node). x .state) got ∙ delivered-state packet v)))
     where
@@ -78,10 +78,10 @@ module _ (g : Setup) (limit initiator : ℕ) (packet : Packet) (s : Standing) wh
       first = withNodes (begun (g .nodes) (g .repeats) initiator packet (s .nodes)) s
 
       v : Node
-      v = at (slots g limit first .nodes) j
+      v = at (slots g longest first .nodes) j
 
-      got : at (delivered (g .nodes) packet (slots g limit first .nodes)) j ≡ deliveredTo packet v
-      got = getD-tabulate (g .nodes) (λ (i : ℕ). deliveredTo packet (at (slots g limit first .nodes) i)) j new h
+      got : at (delivered (g .nodes) packet (slots g longest first .nodes)) j ≡ deliveredTo packet v
+      got = getD-tabulate (g .nodes) (λ (i : ℕ). deliveredTo packet (at (slots g longest first .nodes) i)) j new h
 
       go : (a b : Bool) → v .payload ≡ begunBy a packet (g .repeats) (at (s .nodes) j) .payload
           → cond b (holding packet v) v .payload ≡ cond (a || b) (Payload.Of packet) (at (s .nodes) j .payload)
@@ -91,16 +91,16 @@ module _ (g : Setup) (limit initiator : ℕ) (packet : Packet) (s : Standing) wh
       go false false e = e
 
   -- where no other node than the initiator held the round's packet before it, the covered nodes are those that took part
-  pub covered-round : ((j : ℕ) → j < g .nodes → (j ≡ initiator → ⊥) → holds packet (at (s .nodes) j .payload) ≡ false)
-      → round g limit initiator packet s .covered ≡ count (g .nodes) (has (round g limit initiator packet s .part))
+  pub covered-round : ((j : ℕ) → j < g .nodes → (j ≡ initiator → ⊥) → payloadIs packet (at (s .nodes) j .payload) ≡ false)
+      → round g longest initiator packet s .covered ≡ count (g .nodes) (has (round g longest initiator packet s .part))
   unfolding round coverage
   covered-round others =
       count-cong (g .nodes) _ (has part)
-      (λ j h. ap (holds packet) (payload-round j h) ∙ go (has part j) (at (s .nodes) j .payload) (λ out. others j h (part-others j h out)))
+      (λ j h. ap (payloadIs packet) (payload-round j h) ∙ go (has part j) (at (s .nodes) j .payload) (λ out. others j h (part-others j h out)))
     where
       part : ℕ
-      part = round g limit initiator packet s .part
+      part = round g longest initiator packet s .part
 
-      go : (b : Bool) (old : Payload) → (b ≡ false → holds packet old ≡ false) → holds packet (cond b (Payload.Of packet) old) ≡ b
+      go : (b : Bool) (old : Payload) → (b ≡ false → payloadIs packet old ≡ false) → payloadIs packet (cond b (Payload.Of packet) old) ≡ b
       go true old e = same-packet-itself packet
       go false old e = e refl

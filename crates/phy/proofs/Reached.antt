@@ -10,11 +10,12 @@ use lib.Dec.{eqb}
 use lib.Pow.{pow-pos}
 use borrow.Author.Tests.{eqb-true, eq-eqb}
 use Rattle.network.specs.Graph.{has, linked}
+use Rattle.network.proofs.Lowest.{has-zero}
 use Rattle.network.proofs.Sets.{never, and-both, or-either, or-right}
 use Rattle.phy.specs.declared.node.Node.{Node}
 use Rattle.phy.specs.Node.{isListening, isFlooding}
 use Rattle.phy.specs.Slot.{Setup, Tries, at, among, receivers, attemptBy, attempt, attemptAll, triesIn}
-use Rattle.phy.proofs.Masks.{has-zero, has-insert, insert-lt}
+use Rattle.phy.proofs.Masks.{has-insert, insert-lt}
 use Rattle.phy.proofs.Tries.{triedIn, attempts-all}
 
 -- ---- a number is in a list

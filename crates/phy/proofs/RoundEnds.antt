@@ -13,7 +13,7 @@ use lib.ListN.{length, getD, set, length-set}
 use lib.Seq.{getD-set-same, getD-set-other}
 use borrow.Author.Tests.{eqb-true, eqb-false, eq-eqb, ne-eqb, lt-ltb}
 use Rattle.network.specs.Graph.{has, setOf}
-use Rattle.network.proofs.Lowest.{has-minus}
+use Rattle.network.proofs.Lowest.{has-minus, has-zero}
 use Rattle.network.proofs.Sets.{two, has-or, has-one, has-full, has-setOf, setOf-cong, setOf-one}
 use Rattle.random.proofs.Tables.{getD-tabulate}
 use Rattle.phy.specs.declared.node.Node.{Node}
@@ -26,7 +26,7 @@ use Rattle.phy.specs.Node.{new, begunBy, deliveredTo, holding, listens, 
 use Rattle.phy.specs.Slot.{Standing, at, sumOf}
 use Rattle.phy.specs.Round.{begun, delivered, withNodes, participants}
 use Rattle.phy.specs.View.{tables, Stands, Queued, InSlot, Emptied, placeAfter, begunFlood, CanBegin, Begins}
-use Rattle.phy.proofs.Masks.{has-zero, set-is}
+use Rattle.phy.proofs.Masks.{set-is}
 use Rattle.phy.proofs.Nodes.{delivered-state, total-begun, total-delivered}
 use Rattle.phy.proofs.Steps.{sum-cong}
 

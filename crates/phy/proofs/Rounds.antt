@@ -15,10 +15,10 @@ use Rattle.phy.specs.Round.{slots}
 use Rattle.phy.proofs.Nodes.{ones-setOf}
 
 -- nobody is counted where the set is empty, and the other way round
-setOf-none : (n : ℕ) (f : ℕ → Bool) → count n f ≡ 0 → setOf n f ≡ 0
+setOf-uncounted : (n : ℕ) (f : ℕ → Bool) → count n f ≡ 0 → setOf n f ≡ 0
 unfolding setOf count
-setOf-none zero f e = refl
-setOf-none (suc n) f e = ap₂ _+_ (setOf-none n f (omega (arith, e))) (empty (f n) (omega (arith, e)))
+setOf-uncounted zero f e = refl
+setOf-uncounted (suc n) f e = ap₂ _+_ (setOf-uncounted n f (omega (arith, e))) (empty (f n) (omega (arith, e)))
   where
     empty : (b : Bool) → _≡_ {A = ℕ} (cond b 1 0) 0 → cond b (2 ^ n) 0 ≡ 0
     empty true p = absurd (omega (arith, p))
@@ -32,7 +32,7 @@ module _ (n : ℕ) (nodes : List Node) (flooding : ℕ) (are : flooding ≡ setO
       le-ltb 0 (howMany isFlooding nodes n) (omega (arith, none))
 
   pub somebody : (flooding ≡ 0 → ⊥) → ltb 0 (howMany isFlooding nodes n) ≡ true
-  somebody h = lt-ltb 0 (howMany isFlooding nodes n) (above (howMany isFlooding nodes n) (λ z. h (are ∙ setOf-none n _ z)))
+  somebody h = lt-ltb 0 (howMany isFlooding nodes n) (above (howMany isFlooding nodes n) (λ z. h (are ∙ setOf-uncounted n _ z)))
     where
       above : (k : ℕ) → (k ≡ 0 → ⊥) → 0 < k
       above zero q = absurd (q refl)

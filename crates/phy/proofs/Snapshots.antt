@@ -22,7 +22,7 @@ pub five-sets : (b : List ℕ) (i v w x y z : ℕ)
     → set (set (set (set (set b i v) (i + 1) w) (i + 2) x) (i + 3) y) (i + 4) z ≡ sets b i (v ∷ w ∷ x ∷ y ∷ z ∷ [])
 five-sets b i v w x y z = rw (add-one, add-two, add-three, add-four)
 
-sets-append : (l : List ℕ) (i : ℕ) (xs ys : List ℕ) → sets l i (xs ++ ys) ≡ sets (sets l i xs) (i + length xs) ys
+pub sets-append : (l : List ℕ) (i : ℕ) (xs ys : List ℕ) → sets l i (xs ++ ys) ≡ sets (sets l i xs) (i + length xs) ys
 sets-append l i [] ys = ap (λ (k : ℕ). sets l k ys) (sym (add-zero i))
 sets-append l i (x ∷ xs) ys = sets-append (set l i x) (suc i) xs ys ∙ ap (λ (k : ℕ). sets (sets (set l i x) (suc i) xs) k ys) (omega arith)
 
@@ -37,10 +37,10 @@ unfolding snapshotsWith
 length-with b shots = length-sets b 0 (flatten (take (snapshotRoom b) shots))
 
 -- as a run begins
-pub recorded-none : (b : List ℕ) → Scheduled 0 0 b b (record { next = 0; taken = [] })
+pub scheduled-none : (b : List ℕ) → Scheduled 0 0 b b (record { next = 0; taken = [] })
 unfolding snapshotsWith flatten
-recorded-none b =
-    record { due = refl; counted = refl; stored = sym (ap (λ (l : List (List ℕ)). sets b 0 (flatten l)) (take-nil (snapshotRoom b))); whole = refl }
+scheduled-none b =
+    record { due = refl; number = refl; stored = sym (ap (λ (l : List (List ℕ)). sets b 0 (flatten l)) (take-nil (snapshotRoom b))); whole = refl }
 
 -- one snapshot more
 module _ (b₀ : List ℕ) {b : List ℕ} (shots : List (List ℕ)) (shot : List ℕ) (five : length shot ≡ snapshotSize) (are : b ≡ snapshotsWith b₀ shots)
@@ -86,15 +86,15 @@ module _ (interval : ℕ) (shot : ℕ → List ℕ) (slot : ℕ) where
   one-due most x h = rw (takeWhile, le-leb (x .next) slot h)
 
 -- one is taken, and the code stores it
-pub recorded-one : (interval : ℕ) (shot : ℕ → List ℕ) {next count : ℕ} {b₀ b b' : List ℕ} {x : Shots} → length (shot next) ≡ snapshotSize
+pub scheduled-one : (interval : ℕ) (shot : ℕ → List ℕ) {next count : ℕ} {b₀ b b' : List ℕ} {x : Shots} → length (shot next) ≡ snapshotSize
     → Scheduled next count b₀ b x → Stores count (shot next) b b' → Scheduled (next + interval) (count + 1) b₀ b' (takeOne interval shot x)
 unfolding takeOne
-recorded-one interval shot {next} {count} {b₀} {b} {b'} {x} five r s =
+scheduled-one interval shot {next} {count} {b₀} {b} {b'} {x} five r s =
     let five' : length (shot (x .next)) ≡ snapshotSize = subst (λ (k : ℕ). length (shot k) ≡ snapshotSize) (r .due) five in
-    let s' : Stores (length (x .taken)) (shot (x .next)) b b' = subst (λ (k : ℕ). Stores (length (x .taken)) (shot k) b b') (r .due) (subst (λ (k : ℕ). Stores k (shot next) b b') (r .counted) s) in
+    let s' : Stores (length (x .taken)) (shot (x .next)) b b' = subst (λ (k : ℕ). Stores (length (x .taken)) (shot k) b b') (r .due) (subst (λ (k : ℕ). Stores k (shot next) b b') (r .number) s) in
     record {
       due = ap (λ (k : ℕ). k + interval) (r .due);
-      counted = omega (arith, r .counted, length-append (x .taken) (shot (x .next) ∷ []));
+      number = omega (arith, r .number, length-append (x .taken) (shot (x .next) ∷ []));
       stored = stored-more b₀ (x .taken) (shot (x .next)) five' (r .stored) (r .whole) s';
       whole = whole-more b₀ (x .taken) (shot (x .next)) five' (r .stored) (r .whole);
     }

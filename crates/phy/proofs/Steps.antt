@@ -12,7 +12,7 @@ use lib.Count.{ones}
 use lib.ListN.{getD, set, length-set}
 use lib.Seq.{getD-set-same, getD-set-other}
 use borrow.Author.Tests.{eqb-true, eqb-false, eq-eqb, ne-eqb}
-use Rattle.config.specs.Limits.{maxNodes}
+use Rattle.config.specs.Limits.{maxNodes, countBound}
 use Rattle.network.specs.Graph.{has, setOf, count}
 use Rattle.network.proofs.Lowest.{has-minus}
 use Rattle.network.proofs.Sets.{two, never, same, has-or, has-setOf, setOf-lt}
@@ -25,11 +25,10 @@ use Rattle.phy.specs.declared.slot.Settings.{Settings}
 use Rattle.phy.specs.declared.slot.Tried.{Tried}
 use Rattle.phy.specs.declared.snapshot.Shown.{Shown}
 use Rattle.phy.specs.declared.snapshot.Schedule.{Schedule}
-use Rattle.phy.specs.Limits.{mostSlots}
 use Rattle.phy.specs.Node.{tick, tickIn, transition, transitionIn, listens, floods, sleeps, isListening, isFlooding, isSleeping}
 use Rattle.phy.specs.Slot.{Setup, Shots, Standing, at, sumOf, ticked, moved, snapshot, attemptAll, triesIn, takeWhile, slotStep}
 use Rattle.phy.specs.View.{Tables, tables, asSetup, triesOf, receiversOf, shownOf, shotOf, TakesDue, awakeAfter, Advances, placeAfter, Queued, Stands, InSlot}
-use Rattle.phy.proofs.Nodes.{tick-state, at-ticked, at-moved, total-slot, ones-setOf, three-states}
+use Rattle.phy.proofs.Nodes.{onward-is, at-ticked, at-moved, total-slot, ones-setOf, three-states}
 use Rattle.phy.proofs.Counts.{all-slots}
 use Rattle.phy.proofs.Masks.{has-and, set-is}
 use Rattle.phy.proofs.Places.{place-first, place-lt, place-other, place-then, place-last}
@@ -38,10 +37,6 @@ use Rattle.phy.proofs.Slots.{awake-few, shot-is, tries-are}
 -- ---- one node
 abbrev onward : NodeState → ℕ → Bool → Node → Node
 onward st repeats heard v = transitionIn st repeats heard (tickIn st v)
-
-onward-is : (repeats : ℕ) (heard : Bool) (v : Node) → transition repeats heard (tick v) ≡ onward (v .state) repeats heard v
-unfolding transition tick
-onward-is repeats heard v = ap (λ (st : NodeState). transitionIn st repeats heard (tickIn (v .state) v)) (tick-state v)
 
 -- a node's repeats, one less
 pred-eqb : (r i : ℕ) → 1 ≤ r → eqb (r - 1) i ≡ eqb r (i + 1)
@@ -146,7 +141,7 @@ module _ (n repeats reached : ℕ) (nodes : List Node) (x : Awake) (e : List ℕ
   hearers = bitAnd (x .listening) reached
 
   each : (j : ℕ) → j < n → at afterwards j ≡ onward (at nodes j .state) repeats (has reached j) (at nodes j)
-  each j b = at-moved n repeats reached (ticked n nodes) j b ∙ ap (transition repeats (has reached j)) (at-ticked n nodes j b) ∙ onward-is repeats (has reached j) (at nodes j)
+  each j b = at-moved n repeats reached (ticked n nodes) j b ∙ ap (transition repeats (has reached j)) (at-ticked n nodes j b) ∙ onward-is repeats (has reached j) (at nodes j) (at nodes j .state) refl
 
   step : (j : ℕ) → j < n → Followed (at nodes j .state) repeats (has reached j) (at nodes j) (at afterwards j)
   step j b =
@@ -225,7 +220,7 @@ module _ (n repeats reached : ℕ) (nodes : List Node) (x : Awake) (e : List ℕ
   sleeps-now = sum-more (λ (v : Node). v .«slots_sleep») nodes afterwards (λ (j : ℕ). isSleeping (at nodes j)) n (λ j b. step j b .slots-sleep)
 
 -- ---- the sums are nodes times slots, so that one slot more has room
-module _ (n : ℕ) {x : Floods} {b₀ b : List ℕ} {s : Standing} {seen : Shown} {progress : ℕ} (few : n ≤ maxNodes) (early : x .slot .0 < mostSlots) (st : Stands n x b₀ b s)
+module _ (n : ℕ) {x : Floods} {b₀ b : List ℕ} {s : Standing} {seen : Shown} {progress : ℕ} (few : n ≤ maxNodes) (early : x .slot .0 < countBound) (st : Stands n x b₀ b s)
     (seen-is : seen ≡ shownOf n progress (ones (x .listening)) (ones (x .flooding))) where
   sums : x .«slots_listen» + x .«slots_flood» + x .«slots_sleep» ≡ n * x .slot .0
   sums = omega (arith, st .listens, st .floods, st .sleeps, all-slots (s .nodes) n (x .slot .0) (λ j p. st .counted j p ∙ sym (st .slot)))
@@ -343,7 +338,7 @@ module _ (g : Settings) (rows : List ℕ) (heard : ℕ → Bool) (p : ℕ) (x : 
         attempts = refl;
         successes = refl;
         slot = refl;
-        shots = takes .recorded b₀ (s .shots) (st .shots);
+        shots = takes .scheduled b₀ (s .shots) (st .shots);
       }
 
   pub slot-stands : (w : List ℕ) → InSlot g (placeAfter (g .repeats) p 1) after (tables e' w b') b₀ (slotStep setup s)

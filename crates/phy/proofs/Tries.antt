@@ -128,10 +128,10 @@ pub tallied-slots : (g : Setup) (left : ℕ) (s : Standing) → Tallied (g .node
 tallied-slots g =
     along-slots g (Tallied (g .nodes) (g .heard)) (tallied-none (g .nodes) (g .heard)) (λ s t more. tallied-then (tallied-slot g s) more)
 
-pub tallied-round : (g : Setup) (limit initiator : ℕ) (packet : Packet) (s : Standing) → Tallied (g .nodes) (g .heard) s (round g limit initiator packet s .after)
+pub tallied-round : (g : Setup) (longest initiator : ℕ) (packet : Packet) (s : Standing) → Tallied (g .nodes) (g .heard) s (round g longest initiator packet s .after)
 unfolding round
-tallied-round g limit initiator packet s =
-    let r = tallied-slots g limit (withNodes (begun (g .nodes) (g .repeats) initiator packet (s .nodes)) s) in
+tallied-round g longest initiator packet s =
+    let r = tallied-slots g longest (withNodes (begun (g .nodes) (g .repeats) initiator packet (s .nodes)) s) in
     record { made = r .made; attempts = r .attempts; successes = r .successes; few = r .few }
 
 -- no attempt between two standings is lost; and attempts and successes grow by the same number

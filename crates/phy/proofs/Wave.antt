@@ -12,8 +12,8 @@ use Rattle.network.proofs.Sets.{two, never}
 use Rattle.phy.specs.declared.node.Node.{Node}
 use Rattle.phy.specs.declared.node.NodeState.{NodeState}
 use Rattle.phy.specs.declared.node.NodeState.the-variants.{Listen, Flood, Sleep}
-use Rattle.phy.specs.Node.{turned, tick, tickIn, transition, transitionIn, listens, floods, isListening, isFlooding}
-use Rattle.phy.proofs.Nodes.{tick-state}
+use Rattle.phy.specs.Node.{inState, tick, tickIn, transition, transitionIn, listens, floods, isListening, isFlooding}
+use Rattle.phy.proofs.Nodes.{onward-is}
 
 -- v₀ is the node before the round, v before slot k of it
 pub data Phase (v₀ : Node) (d r k : ℕ) (v : Node) : Type 0 where
@@ -23,12 +23,6 @@ pub data Phase (v₀ : Node) (d r k : ℕ) (v : Node) : Type 0 where
       → v .«slots_listen» ≡ v₀ .«slots_listen» + d → v .«slots_flood» + d ≡ v₀ .«slots_flood» + k → v .«slots_sleep» ≡ v₀ .«slots_sleep» → Phase v₀ d r k v
   sleeping : d + r ≤ k → v .state ≡ Sleep
       → v .«slots_listen» ≡ v₀ .«slots_listen» + d → v .«slots_flood» ≡ v₀ .«slots_flood» + r → v .«slots_sleep» + (d + r) ≡ v₀ .«slots_sleep» + k → Phase v₀ d r k v
-
--- a slot, by the node's state before it
-onward-is : (r : ℕ) (heard : Bool) (v : Node) (s : NodeState) → v .state ≡ s → transition r heard (tick v) ≡ transitionIn s r heard (tickIn s v)
-unfolding transition tick
-onward-is r heard v s e =
-    ap (λ (x : NodeState). transitionIn x r heard (tick v)) (tick-state v ∙ e) ∙ ap (λ (x : NodeState). transitionIn s r heard (tickIn x v)) e
 
 -- one slot, for a node that hears exactly in the slot before its distance
 pub phase-slot : {v₀ : Node} {d r k : ℕ} {v : Node} (heard : Bool) → 1 ≤ r → (suc k ≡ d → heard ≡ true) → (suc k < d → heard ≡ false)
@@ -43,7 +37,7 @@ phase-slot {v₀} {d} {r} {k} {v} heard pos hears deaf (flooding low high e left
     subst (Phase v₀ d r (suc k)) (sym (onward-is r heard v Flood e)) (⊎-elim (λ p. last p) (λ p. again p) (two (eqb (v .«flood_remaining» - 1) 0)))
   where
     end : Bool → Node
-    end b = turned (cond b Sleep Flood) (v .«flood_remaining» - 1) (tickIn Flood v)
+    end b = inState (cond b Sleep Flood) (v .«flood_remaining» - 1) (tickIn Flood v)
 
     last : eqb (v .«flood_remaining» - 1) 0 ≡ true → Phase v₀ d r (suc k) (transitionIn Flood r heard (tickIn Flood v))
     last p =

@@ -1,5 +1,5 @@
 -- The limits of a flood, and the layouts of the tables lent to it.
-use Prim.Native.Nat.{ℕ, _*_, _^_}
+use Prim.Native.Nat.{ℕ, _*_}
 use Rattle.config.specs.Limits.{setBits, maxNodes, maxRepeats}
 
 -- the queue of the flooding nodes: a place for each repeat
@@ -9,7 +9,3 @@ queueSize = maxRepeats
 -- A slot has no more attempts: each node tries no more nodes than a set has bits.
 abbrev pub slotAttempts : ℕ
 slotAttempts = setBits * maxNodes
-
--- A run has fewer slots, so that its counters stay below 2^64.
-abbrev pub mostSlots : ℕ
-mostSlots = 2 ^ 40

@@ -13,8 +13,8 @@ abbrev pub new : Node
 new = record { state = Listen; «flood_remaining» = 0; payload = Payload.None; «slots_listen» = 0; «slots_flood» = 0; «slots_sleep» = 0 }
 
 -- the node with another state and other repeats left
-abbrev pub turned : NodeState → ℕ → Node → Node
-turned state left v =
+abbrev pub inState : NodeState → ℕ → Node → Node
+inState state left v =
     record {
       state = state;
       «flood_remaining» = left;
@@ -26,7 +26,7 @@ turned state left v =
 
 -- `reset_round`: the node listens
 abbrev pub resetRound : Node → Node
-resetRound v = turned Listen 0 v
+resetRound v = inState Listen 0 v
 
 -- `tick`: the node counts its state
 abbrev pub tickIn : NodeState → Node → Node
@@ -39,8 +39,8 @@ tick v = tickIn (v .state) v
 
 -- flooders lose one repeat and sleep at 0, listeners that heard flood with full repeats
 abbrev pub transitionIn : NodeState → ℕ → Bool → Node → Node
-transitionIn Flood repeats heard v = turned (cond (eqb (v .«flood_remaining» - 1) 0) Sleep Flood) (v .«flood_remaining» - 1) v
-transitionIn Listen repeats heard v = cond heard (turned Flood repeats v) v
+transitionIn Flood repeats heard v = inState (cond (eqb (v .«flood_remaining» - 1) 0) Sleep Flood) (v .«flood_remaining» - 1) v
+transitionIn Listen repeats heard v = cond heard (inState Flood repeats v) v
 transitionIn Sleep repeats heard v = v
 
 unfoldable pub transition : ℕ → Bool → Node → Node
@@ -88,7 +88,7 @@ isSleeping v = sleeps (v .state)
 
 -- as a round begins: the initiator floods with its repeats and holds the packet, every other node listens
 abbrev pub begunBy : Bool → Packet → ℕ → Node → Node
-begunBy first packet repeats v = cond first (holding packet (turned Flood repeats v)) (resetRound v)
+begunBy first packet repeats v = cond first (holding packet (inState Flood repeats v)) (resetRound v)
 
 -- sleeping nodes get the packet
 abbrev pub deliveredTo : Packet → Node → Node

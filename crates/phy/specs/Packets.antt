@@ -13,14 +13,14 @@ use Rattle.phy.specs.declared.node.Payload.{Payload}
 -- ---- parts of a packet that are none or a term: whether there is one, and the term
 
 pub record Part : Type 0 where
-  pub given : ℕ
+  pub present : ℕ
   pub term : ℕ
 
 abbrev pub nothing : Part
-nothing = record { given = 0; term = 0 }
+nothing = record { present = 0; term = 0 }
 
 abbrev pub partOf : Term → Part
-partOf t = record { given = 1; term = t .0 }
+partOf t = record { present = 1; term = t .0 }
 
 abbrev pub nackPart : Nack → Part
 nackPart Nack.None = nothing
@@ -45,7 +45,7 @@ backData (Piggyback.Of t d) = d
 
 -- both none, or both the same term
 abbrev pub samePart : Part → Part → Bool
-samePart x y = eqb (x .given) (y .given) && eqb (x .term) (y .term)
+samePart x y = eqb (x .present) (y .present) && eqb (x .term) (y .term)
 
 -- ---- whole packets
 
@@ -57,6 +57,6 @@ samePacket p q =
     && (samePart (backPart (p .piggyback)) (backPart (q .piggyback)) && samePart (dataPart (backData (p .piggyback))) (dataPart (backData (q .piggyback)))))
 
 -- the payload is this packet
-abbrev pub holds : Packet → Payload → Bool
-holds p Payload.None = false
-holds p (Payload.Of q) = samePacket p q
+abbrev pub payloadIs : Packet → Payload → Bool
+payloadIs p Payload.None = false
+payloadIs p (Payload.Of q) = samePacket p q

@@ -9,7 +9,7 @@ use Rattle.phy.specs.declared.node.Node.{Node}
 use Rattle.phy.specs.declared.packet.Packet.{Packet}
 use Rattle.config.specs.declared.RoundSlots.{RoundSlots}
 use Rattle.config.specs.Limits.{leastLength}
-use Rattle.phy.specs.Packets.{holds}
+use Rattle.phy.specs.Packets.{payloadIs}
 use Rattle.phy.specs.Node.{begunBy, deliveredTo, isFlooding, isSleeping}
 use Rattle.phy.specs.Slot.{Setup, Standing, at, howMany, slotStep}
 
@@ -39,7 +39,7 @@ participants n initiator nodes = setOf n (λ (j : ℕ). eqb j initiator || isSle
 
 -- the covered nodes: those whose held packet equals this round's, also one kept from an earlier round
 unfoldable pub coverage : ℕ → Packet → List Node → ℕ
-coverage n packet nodes = howMany (λ (v : Node). holds packet (v .payload)) nodes n
+coverage n packet nodes = howMany (λ (v : Node). payloadIs packet (v .payload)) nodes n
 
 -- where the run stands after the round, who took part, and how many nodes are covered
 pub record Flooded : Type 0 where
@@ -53,7 +53,7 @@ withNodes nodes s = record { nodes = nodes; attempts = s .attempts; successes = 
 
 -- One round: begin, slots up to the length limit, end; who took part, and how many nodes are covered.
 unfoldable pub round : Setup → ℕ → ℕ → Packet → Standing → Flooded
-round g limit initiator packet s =
-    let ended : Standing = slots g limit (withNodes (begun (g .nodes) (g .repeats) initiator packet (s .nodes)) s) in
+round g longest initiator packet s =
+    let ended : Standing = slots g longest (withNodes (begun (g .nodes) (g .repeats) initiator packet (s .nodes)) s) in
     let nodes : List Node = delivered (g .nodes) packet (ended .nodes) in
     record { after = withNodes nodes ended; part = participants (g .nodes) initiator nodes; covered = coverage (g .nodes) packet nodes }

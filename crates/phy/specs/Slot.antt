@@ -10,7 +10,7 @@ use Rattle.phy.specs.declared.node.Node.{Node}
 use Rattle.phy.specs.Node.{new, tick, transition, isListening, isFlooding, isSleeping}
 
 -- What a round is given: the rows of the graph and its number of nodes, the repeats, the snapshot interval, the progress that snapshots
--- show, and the outcome of each attempt of the run by the attempt's number.
+-- show, and the receptions of the run: whether an attempt is heard, by its number.
 pub record Setup : Type 0 where
   pub rows : List ℕ
   pub nodes : ℕ
@@ -63,7 +63,7 @@ abbrev pub attemptBy : Bool → Tries → ℕ → Tries
 attemptBy true t j = record { attempts = t .attempts + 1; successes = t .successes + 1; reached = insert j (t .reached) }
 attemptBy false t j = record { attempts = t .attempts + 1; successes = t .successes; reached = t .reached }
 
--- one attempt, to node j; its outcome goes by its number among the run's attempts
+-- one attempt, to node j; whether it is heard goes by its number among the run's attempts
 unfoldable pub attempt : (ℕ → Bool) → Tries → ℕ → Tries
 attempt heard t j = attemptBy (heard (t .attempts)) t j
 

@@ -8,7 +8,7 @@ use lib.Dec.{eqb, ltb}
 use lib.ListN.{length, getD, set}
 use lib.Seq.{sets}
 use lib.Ieee.{Float}
-use Rattle.config.specs.Limits.{maxNodes, maxRepeats, snapshotSize}
+use Rattle.config.specs.Limits.{maxNodes, maxRepeats, snapshotSize, countBound}
 use Rattle.network.specs.Graph.{has, setOf, count, all}
 use Rattle.random.specs.Reception.{Source}
 use Rattle.phy.specs.declared.slot.Settings.{Settings}
@@ -20,7 +20,7 @@ use Rattle.phy.specs.declared.snapshot.Schedule.{Schedule}
 use Rattle.phy.specs.declared.ci.Round.{Round}
 use Rattle.phy.specs.declared.packet.Packet.{Packet}
 use Rattle.phy.specs.declared.node.Node.{Node}
-use Rattle.phy.specs.Limits.{slotAttempts, mostSlots}
+use Rattle.phy.specs.Limits.{slotAttempts}
 use Rattle.phy.specs.Node.{total, isListening, isFlooding}
 use Rattle.phy.specs.Slot.{Setup, Tries, Shots, Standing, at, sumOf, receivers, attemptAll, takeWhile, slotStep}
 use Rattle.phy.specs.Snapshots.{snapshotsWith}
@@ -37,7 +37,7 @@ abbrev pub tables : List ℕ → List ℕ → List ℕ → Tables
 tables queue stream snapshots = record { queue = queue; stream = stream; snapshots = snapshots }
 
 -- ---- attempts
--- the setup of a run whose attempts have these outcomes
+-- the setup of a run with these receptions
 abbrev pub asSetup : Settings → List ℕ → (ℕ → Bool) → Setup
 asSetup x rows heard =
     record { rows = rows; nodes = x .nodes; repeats = x .repeats; interval = x .interval; progress = x .progress; heard = heard }
@@ -81,14 +81,14 @@ pub record Stores (count : ℕ) (shot b b' : List ℕ) : Type 0 where
 -- The slot of the next snapshot and the count are those of the definitions, and the buffer, b₀ as the run began, is b.
 pub record Scheduled (next count : ℕ) (b₀ b : List ℕ) (x : Shots) : Type 0 where
   pub due : next ≡ x .next
-  pub counted : count ≡ length (x .taken)
+  pub number : count ≡ length (x .taken)
   pub stored : b ≡ snapshotsWith b₀ (x .taken)
   pub whole : length (flatten (x .taken)) ≡ snapshotSize * length (x .taken)
 
 -- the snapshots that are due by this slot are taken, those at the multiples of the interval
 pub record TakesDue (interval slot : ℕ) (seen : Shown) (y : Schedule) (b : List ℕ) (r : Schedule) (b' : List ℕ) : Type 0 where
   pub multiple : r .next .0 ≡ r .count * interval
-  pub recorded : (b₀ : List ℕ) (x : Shots) → Scheduled (y .next .0) (y .count) b₀ b x
+  pub scheduled : (b₀ : List ℕ) (x : Shots) → Scheduled (y .next .0) (y .count) b₀ b x
       → Scheduled (r .next .0) (r .count) b₀ b' (takeWhile interval (shotOf seen) slot (suc slot) x)
 
 -- ---- a slot
@@ -136,7 +136,7 @@ pub record InSlot (g : Settings) (p : ℕ) (x : Flood) (t : Tables) (b₀ : List
   pub stands : Stands (g .nodes) x b₀ (t .snapshots) s
   pub queued : Queued (g .nodes) (g .repeats) (t .queue) p (s .nodes)
 
--- the stream is a source of some outcomes, and the definitions stand somewhere
+-- the stream is a source of some receptions, and the definitions stand somewhere
 pub record Meets (g : Settings) (p : ℕ) (x : Flood) (t : Tables) : Type 0 where
   pub heard : ℕ → Bool
   pub source : Source (g .rate) heard (x .attempts) (t .stream)
@@ -153,7 +153,7 @@ pub record Sound (g : Settings) (x : Flood) : Type 0 where
   pub successes : x .successes ≤ slotAttempts * x .slot .0
   pub next : x .«next_snapshot» .0 ≡ x .snapshots * g .interval
 
--- From x, with the queue from place p on, the code came to r in one slot, and what held between slots holds again. For all outcomes that
+-- From x, with the queue from place p on, the code came to r in one slot, and what held between slots holds again. For all receptions that
 -- the stream is a source of, it still is one, and the code stands where the slot of the definitions leads.
 pub record Stepped (g : Settings) (rows : List ℕ) (p : ℕ) (x : Flood) (t : Tables) (r : Flood) (t' : Tables) : Type 0 where
   pub sound : Sound g r
@@ -164,14 +164,14 @@ pub record Stepped (g : Settings) (rows : List ℕ) (p : ℕ) (x : Flood) (t : T
       → InSlot g (placeAfter (g .repeats) p 1) r t' b₀ (slotStep (asSetup g rows heard) s)
 
 -- The same of the slots of a round, of which there are at most so many; the queue begins at place 0.
-pub record Slotted (g : Settings) (rows : List ℕ) (limit : ℕ) (x : Flood) (t : Tables) (r : Flood) (t' : Tables) : Type 0 where
+pub record Slotted (g : Settings) (rows : List ℕ) (longest : ℕ) (x : Flood) (t : Tables) (r : Flood) (t' : Tables) : Type 0 where
   pub sound : Sound g r
-  pub slots : r .slot .0 ≤ x .slot .0 + limit
+  pub slots : r .slot .0 ≤ x .slot .0 + longest
   pub room : g .repeats ≤ length (t' .queue)
   pub source : (heard : ℕ → Bool) → Source (g .rate) heard (x .attempts) (t .stream) → Source (g .rate) heard (r .attempts) (t' .stream)
   pub stands : (heard : ℕ → Bool) → Source (g .rate) heard (x .attempts) (t .stream)
       → (b₀ : List ℕ) (s : Standing) → InSlot g 0 x t b₀ s
-      → Stands (g .nodes) r b₀ (t' .snapshots) (roundSlots (asSetup g rows heard) limit s)
+      → Stands (g .nodes) r b₀ (t' .snapshots) (roundSlots (asSetup g rows heard) longest s)
 
 -- ---- a round
 -- all nodes listen but the initiator
@@ -206,11 +206,11 @@ pub record Emptied (count : ℕ) (e e' : List ℕ) : Type 0 where
   pub size : length e' ≡ length e
   pub empty : (i : ℕ) → i < count → getD e' i 0 ≡ 0
 
--- what a round is given: the stream is a source of some outcomes, and the definitions stand somewhere
-pub record CanFlood (g : Settings) (limit initiator : ℕ) (x : Flood) (t : Tables) : Type 0 where
+-- what a round is given: the stream is a source of some receptions, and the definitions stand somewhere
+pub record CanFlood (g : Settings) (longest initiator : ℕ) (x : Flood) (t : Tables) : Type 0 where
   pub sound : Sound g x
   pub node : initiator < g .nodes
-  pub early : x .slot .0 + limit < mostSlots
+  pub early : x .slot .0 + longest < countBound
   pub room : g .repeats ≤ length (t .queue)
   pub heard : ℕ → Bool
   pub source : Source (g .rate) heard (x .attempts) (t .stream)
@@ -218,14 +218,14 @@ pub record CanFlood (g : Settings) (limit initiator : ℕ) (x : Flood) (t : Tabl
   pub standing : Standing
   pub stands : Stands (g .nodes) x first (t .snapshots) standing
 
--- From x the code came to r in a round, of at most so many slots. For all outcomes that the stream is a source of, it still is one, and the
+-- From x the code came to r in a round, of at most so many slots. For all receptions that the stream is a source of, it still is one, and the
 -- code stands where the round of the definitions leads, whichever packet it floods.
-pub record Rounded (g : Settings) (rows : List ℕ) (limit initiator : ℕ) (x : Flood) (t : Tables) (r : Round) (t' : Tables) : Type 0 where
+pub record Rounded (g : Settings) (rows : List ℕ) (longest initiator : ℕ) (x : Flood) (t : Tables) (r : Round) (t' : Tables) : Type 0 where
   pub sound : Sound g (r .flood)
-  pub slots : r .flood .slot .0 ≤ x .slot .0 + limit
+  pub slots : r .flood .slot .0 ≤ x .slot .0 + longest
   pub room : g .repeats ≤ length (t' .queue)
   pub source : (heard : ℕ → Bool) → Source (g .rate) heard (x .attempts) (t .stream) → Source (g .rate) heard (r .flood .attempts) (t' .stream)
   pub stands : (heard : ℕ → Bool) → Source (g .rate) heard (x .attempts) (t .stream)
       → (packet : Packet) (b₀ : List ℕ) (s : Standing) → Stands (g .nodes) x b₀ (t .snapshots) s
-      → Stands (g .nodes) (r .flood) b₀ (t' .snapshots) (round (asSetup g rows heard) limit initiator packet s .after)
-      × (r .part ≡ round (asSetup g rows heard) limit initiator packet s .part)
+      → Stands (g .nodes) (r .flood) b₀ (t' .snapshots) (round (asSetup g rows heard) longest initiator packet s .after)
+      × (r .part ≡ round (asSetup g rows heard) longest initiator packet s .part)

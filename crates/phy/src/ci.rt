@@ -15,9 +15,9 @@ ghost use mathlib.Core.Path.{_≡_};
 ghost use mathlib.Core.Bool.{not, _||_};
 ghost use Prim.Native.Nat.{_+_, _≤_, _<_};
 ghost use lib.Dec.{eqb};
-ghost use Rattle.config.specs.Limits.{setBits, maxNodes, maxRepeats};
+ghost use Rattle.config.specs.Limits.{setBits, maxNodes, maxRepeats, countBound};
 ghost use Rattle.network.specs.Graph.{has, setOf};
-ghost use Rattle.phy.specs.Limits.{queueSize, mostSlots};
+ghost use Rattle.phy.specs.Limits.{queueSize};
 ghost use Rattle.phy.specs.Round.{lengthLimit};
 ghost use Rattle.phy.specs.View.{tables, Sound, Meets, Slotted, placeAfter};
 ghost use Rattle.phy.specs.View.{CanBegin, Begins, Emptied, CanFlood, Rounded};
@@ -81,20 +81,20 @@ fn next_place(place: usize, repeats: u32) -> usize
 fn slots(
     settings: Settings,
     rows: &[u64; MAX_NODES],
-    limit: u64,
+    longest: u64,
     flood: Flood,
     queue: &mut [u64; QUEUE_SIZE],
     stream: &mut [u32; STREAM_SIZE],
     snapshots: &mut [u64],
 ) -> Flood
-    requires { ⌜ Sound settings flood × (flood .slot .0 + limit < mostSlots)
+    requires { ⌜ Sound settings flood × (flood .slot .0 + longest < countBound)
         × Meets settings 0 flood (tables (now queue) (now stream) (now snapshots)) ⌝ }
-    ensures { λ r. ⌜ Slotted settings (now (rows .entry)) limit flood
+    ensures { λ r. ⌜ Slotted settings (now (rows .entry)) longest flood
         (tables (now (queue .entry)) (now (stream .entry)) (now (snapshots .entry)))
         r (tables (now (queue .exit)) (now (stream .exit)) (now (snapshots .exit))) ⌝ }
 {
     let mut x = flood;
-    let mut more = limit;
+    let mut more = longest;
     let mut place = 0usize;
     while 0 < more {
         x = slot(settings, rows, x, queue, place, stream, snapshots);
@@ -130,21 +130,21 @@ fn empty_queue(queue: &mut [u64; QUEUE_SIZE], count: usize)
 pub fn flood_identical_round(
     settings: Settings,
     rows: &[u64; MAX_NODES],
-    limit: u64,
+    longest: u64,
     initiator: NodeId,
     flood: Flood,
     queue: &mut [u64; QUEUE_SIZE],
     stream: &mut [u32; STREAM_SIZE],
     snapshots: &mut [u64],
 ) -> Round
-    requires { ⌜ CanFlood settings limit (initiator .0) flood (tables (now queue) (now stream) (now snapshots)) ⌝ }
-    ensures { λ r. ⌜ Rounded settings (now (rows .entry)) limit (initiator .0) flood
+    requires { ⌜ CanFlood settings longest (initiator .0) flood (tables (now queue) (now stream) (now snapshots)) ⌝ }
+    ensures { λ r. ⌜ Rounded settings (now (rows .entry)) longest (initiator .0) flood
         (tables (now (queue .entry)) (now (stream .entry)) (now (snapshots .entry)))
         r (tables (now (queue .exit)) (now (stream .exit)) (now (snapshots .exit))) ⌝ }
 {
     empty_queue(queue, settings.repeats as usize);
     let x = begin_round(settings, initiator, flood, queue);
-    let ended = slots(settings, rows, limit, x, queue, stream, snapshots);
+    let ended = slots(settings, rows, longest, x, queue, stream, snapshots);
     let awake = ended.listening | ended.flooding;
     Round {
         flood: ended,

@@ -12,9 +12,9 @@ ghost use mathlib.Core.Path.{_≡_};
 ghost use mathlib.Core.List.{[], _∷_};
 ghost use Prim.Native.Nat.{_+_, _*_, _^_, _≤_, _<_};
 ghost use lib.Count.{ones};
-ghost use Rattle.config.specs.Limits.{setBits};
+ghost use Rattle.config.specs.Limits.{setBits, countBound};
 ghost use Rattle.network.specs.Graph.{has as hasNode};
-ghost use Rattle.phy.specs.Limits.{queueSize, mostSlots};
+ghost use Rattle.phy.specs.Limits.{queueSize};
 ghost use Rattle.phy.specs.Slot.{among};
 ghost use Rattle.phy.specs.View.{TriedOn, CanTry, receiversOf, Advances, tables, Sound, Meets, Stepped, shownOf};
 
@@ -160,7 +160,7 @@ pub fn slot(
     stream: &mut [u32; STREAM_SIZE],
     snapshots: &mut [u64],
 ) -> Flood
-    requires { ⌜ Sound settings x × (x .slot .0 < mostSlots) × Meets settings place x (tables (now queue) (now stream) (now snapshots)) ⌝ }
+    requires { ⌜ Sound settings x × (x .slot .0 < countBound) × Meets settings place x (tables (now queue) (now stream) (now snapshots)) ⌝ }
     ensures { λ r. ⌜ Stepped settings (now (rows .entry)) place x
         (tables (now (queue .entry)) (now (stream .entry)) (now (snapshots .entry)))
         r (tables (now (queue .exit)) (now (stream .exit)) (now (snapshots .exit))) ⌝ }
@@ -168,33 +168,24 @@ pub fn slot(
     let n = settings.nodes;
     let this = x.slot;
     let seen = shown(n, settings.progress, x.listening, x.flooding);
-    let taken = take_snapshots(
-        this,
-        settings.interval,
-        seen,
-        Schedule {
-            next: Slot(x.next_snapshot.0),
-            count: x.snapshots,
-        },
-        snapshots,
-    );
-    let tried = attempts(
-        rows,
-        n,
-        x.listening,
-        x.flooding,
-        settings.rate,
-        stream,
-        Tried {
-            attempts: x.attempts,
-            successes: x.successes,
-            reached: 0,
-        },
-    );
+    let next = x.next_snapshot;
+    let due = Schedule {
+        next,
+        count: x.snapshots,
+    };
+    let taken = take_snapshots(this, settings.interval, seen, due, snapshots);
+    let untried = Tried {
+        attempts: x.attempts,
+        successes: x.successes,
+        reached: 0,
+    };
+    let rate = settings.rate;
+    let tried = attempts(rows, n, x.listening, x.flooding, rate, stream, untried);
     let before = Awake {
         listening: x.listening,
         flooding: x.flooding,
     };
+    let next_snapshot = taken.next;
     let awake = advance(queue, place, before, tried.reached);
     Flood {
         listening: awake.listening,
@@ -205,7 +196,7 @@ pub fn slot(
         attempts: tried.attempts,
         successes: tried.successes,
         slot: Slot(this.0 + 1),
-        next_snapshot: Slot(taken.next.0),
+        next_snapshot,
         snapshots: taken.count,
     }
 }

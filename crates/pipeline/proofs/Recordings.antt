@@ -5,11 +5,12 @@ use mathlib.Core.Bool.{Bool, true, false, cond, _||_}
 use mathlib.Core.List.{List, [], _∷_, _++_}
 use mathlib.Core.Logic.{⊎-elim}
 use native.Mathlib.Nat.{eq-or-lt-of-le, le-of-suc-le-suc}
+use native.Mathlib.Numerals.{add-one, add-two}
 use native.Mathlib.Omega.{arith}
 use lib.Bits.{bitAnd, bitOr}
 use lib.Dec.{eqb}
 use lib.ListN.{length, getD, set, take, length-set}
-use lib.Seq.{getD-take, getD-set-same, getD-set-other, take-set-le}
+use lib.Seq.{sets, getD-take, getD-set-same, getD-set-other, take-set-le}
 use borrow.Author.Tests.{eq-eqb, ne-eqb}
 use Rattle.config.specs.Limits.{maxTerms}
 use Rattle.network.specs.Graph.{has, count}
@@ -104,6 +105,9 @@ module _ (x : Recorded) (l : List ℕ) (t start end : ℕ) (d : Recording x l) (
 
   abbrev added : List ℕ
   added = set (set (set l at t) (at + 1) start) (at + 2) end
+
+  added-sets : sets l at (t ∷ start ∷ end ∷ []) ≡ added
+  added-sets = rw (add-one, add-two)
 
   abbrev then : Recorded
   then = record { count = x .count + 1; terms = bitOr (x .terms) (1 * 2 ^ t % 2 ^ 64) }
@@ -204,17 +208,18 @@ records-are {end} {ts} {us} ss {x} {y} {l} {m} {rs} f e q h =
     f .records ∙ ap₂ (recordAll (take maxTerms l) end) e q ∙ recordAll-cong (take maxTerms l) ss end us rs h
 
 -- one record more
-pub records-one : (x : Recorded) (l : List ℕ) (t end : ℕ) (d : Recording x l) (small : t < maxTerms) (word : x .terms < 2 ^ 64) (new : has (x .terms) t ≡ false)
-    → Records end (t ∷ []) x l (then x l t (getD l t 0) end d small word new) (added x l t (getD l t 0) end d small word new)
-records-one x l t end d small word new =
-    record {
+pub records-one : (x : Recorded) (l : List ℕ) (t end : ℕ) (d : Recording x l) (small : t < maxTerms) (word : x .terms < 2 ^ 64) (new : has (x .terms) t ≡ false) {m : List ℕ}
+    → m ≡ sets l (recordPlace (x .count)) (t ∷ getD l t 0 ∷ end ∷ []) → Records end (t ∷ []) x l (then x l t (getD l t 0) end d small word new) m
+records-one x l t end d small word new {m} e =
+    subst⁻¹ (Records end (t ∷ []) x l (then x l t (getD l t 0) end d small word new)) (e ∙ added-sets x l t (getD l t 0) end d small word new)
+    (record {
       recording = added-recording x l t (getD l t 0) end d small word new;
       records =
           added-list x l t (getD l t 0) end d small word new
           ∙ ap (λ (k : ℕ). recordsOf (x .count) l ++ (record { id = t; start = k; end = end } ∷ [])) (sym (getD-take maxTerms l t 0 small))
           ∙ sym (record-new (take maxTerms l) end t (recordsOf (x .count) l) (sym (d .known t small) ∙ new));
       starts = added-starts x l t (getD l t 0) end d small word new;
-    }
+    })
 
 -- a term that is recorded
 pub records-known : {x : Recorded} {l : List ℕ} (end t : ℕ) → Recording x l → t < maxTerms → has (x .terms) t ≡ true → Records end (t ∷ []) x l x l

@@ -24,7 +24,7 @@ use Rattle.phy.specs.declared.packet.Piggyback.{Piggyback}
 use Rattle.phy.proofs.Attempts.{among-cong, among-skip}
 use Rattle.protocol.specs.Layout.{firstOf}
 use Rattle.protocol.specs.Paxos.{LogEntry, State, empty, logged, quorum, greatestQuorum, newlyBelow, newlyTo, termSet}
-use Rattle.protocol.specs.Turns.{counted, propose, announce, initiatorTurn, participantTurn}
+use Rattle.protocol.specs.Turns.{counterAfter, propose, announce, initiatorTurn, participantTurn}
 use Rattle.protocol.specs.View.{view, loggedSet, entryAt, logOf, Kept, Wrote, lastBelow, backBelow}
 use Rattle.protocol.proofs.Frame.{Same, wrote-same, wrote-same-before, frame-view, frame-kept}
 use Rattle.protocol.proofs.Commit.{newly-bit}
@@ -34,15 +34,15 @@ use Rattle.pipeline.specs.Round.{Shared, recorded, stateOf, oneNack, lat
 use Rattle.pipeline.specs.View.{Recording, Records, Started, Starts, AllKept, Sharing, TakesTurn, recordPlace, recordsOf, statesOf, sharedOf, withoutPiggyback}
 use Rattle.pipeline.specs.declared.carry.Carry.{Carry}
 
-pub counted-is : (b : Bool) (c : ℕ) → counted b c ≡ c + cond b 1 0
-counted-is true c = refl
-counted-is false c = omega arith
+pub counter-after-is : (b : Bool) (c : ℕ) → counterAfter b c ≡ c + cond b 1 0
+counter-after-is true c = refl
+counter-after-is false c = omega arith
 
-same : (k i : ℕ) → (k ≡ i) ⊎ (k ≡ i → ⊥)
-same zero zero = inl refl
-same zero (suc i) = inr (λ p. omega (arith, p))
-same (suc k) zero = inr (λ p. omega (arith, p))
-same (suc k) (suc i) = ⊎-elim (λ p. inl (ap suc p)) (λ q. inr (λ p. q (omega (arith, p)))) (same k i)
+equal-or-not : (k i : ℕ) → (k ≡ i) ⊎ (k ≡ i → ⊥)
+equal-or-not zero zero = inl refl
+equal-or-not zero (suc i) = inr (λ p. omega (arith, p))
+equal-or-not (suc k) zero = inr (λ p. omega (arith, p))
+equal-or-not (suc k) (suc i) = ⊎-elim (λ p. inl (ap suc p)) (λ q. inr (λ p. q (omega (arith, p)))) (equal-or-not k i)
 
 -- ---- states
 
@@ -53,7 +53,7 @@ state-at n b j h = getD-tabulate n (λ (k : ℕ). view b (firstOf k)) j empty h
 -- a node's places are not those of another
 untouched : {b b' : List ℕ} (j k : ℕ) → Wrote (firstOf j) b b' → (k ≡ j → ⊥) → Same (firstOf k) b b'
 untouched {b} {b'} j k w ne =
-    ⊎-elim (λ e. absurd (ne e)) (λ _. ⊎-elim (λ h. wrote-same-before w (omega (arith, h))) (λ h. wrote-same w (omega (arith, h))) (apart j k ne)) (same k j)
+    ⊎-elim (λ e. absurd (ne e)) (λ _. ⊎-elim (λ h. wrote-same-before w (omega (arith, h))) (λ h. wrote-same w (omega (arith, h))) (apart j k ne)) (equal-or-not k j)
   where
     apart : (j k : ℕ) → (k ≡ j → ⊥) → (k < j) ⊎ (j < k)
     apart zero zero q = absurd (q refl)
@@ -66,7 +66,7 @@ pub states-set : {c : ℕ} (n : ℕ) (b b' : List ℕ) (j : ℕ) (v : State) →
 unfolding statesOf
 states-set n b b' j v a h w e =
     sym (is-tabulate n (λ (k : ℕ). view b' (firstOf k)) empty (set (statesOf n b) j v) (length-set (statesOf n b) j v ∙ length-tabulate n (λ (k : ℕ). view b (firstOf k)))
-    (λ k l. ⊎-elim (λ q. here k q) (λ q. there k l q) (same k j)))
+    (λ k l. ⊎-elim (λ q. here k q) (λ q. there k l q) (equal-or-not k j)))
   where
     here : (k : ℕ) → k ≡ j → getD (set (statesOf n b) j v) k empty ≡ view b' (firstOf k)
     here k q =
@@ -109,10 +109,10 @@ greatest-below (suc k) n s = go (greatest-below k n s) (quorum n (s .pending k))
     go h false = last-mono (greatestQuorum k n s) (omega arith) h
 
 -- each number below k that is not logged
-newly-is : (k : ℕ) (l : List LogEntry) → newlyBelow k l ≡ among k (λ (t : ℕ). not (logged t l))
+newly-unlogged : (k : ℕ) (l : List LogEntry) → newlyBelow k l ≡ among k (λ (t : ℕ). not (logged t l))
 unfolding newlyBelow among
-newly-is zero l = refl
-newly-is (suc k) l = ap₂ (λ (x : List ℕ) (y : List ℕ). x ++ y) (newly-is k l) (go (logged k l))
+newly-unlogged zero l = refl
+newly-unlogged (suc k) l = ap₂ (λ (x : List ℕ) (y : List ℕ). x ++ y) (newly-unlogged k l) (go (logged k l))
   where
     go : (b : Bool) → cond b [] (k ∷ []) ≡ cond (not b) (k ∷ []) []
     go true = refl
@@ -133,7 +133,7 @@ newly-list : (k : ℕ) (l : List LogEntry) → k ≤ maxTerms → among maxTerms
 newly-list k l h =
     among-skip k maxTerms (has (termSet (newlyBelow k l))) h (λ i b _. newly-has k i l ∙ ap (λ (x : Bool). x && not (logged i l)) (le-ltb i k b))
     ∙ among-cong k (has (termSet (newlyBelow k l))) (λ (t : ℕ). not (logged t l)) (λ t b. newly-has k t l ∙ ap (λ (x : Bool). x && not (logged t l)) (lt-ltb t k b))
-    ∙ sym (newly-is k l)
+    ∙ sym (newly-unlogged k l)
 
 pub newly-among : (last : LastAccepted) (l : List LogEntry) → lastBelow maxTerms last → among maxTerms (has (termSet (newlyTo last l))) ≡ newlyTo last l
 unfolding newlyTo newlyBelow
@@ -208,7 +208,7 @@ kept-set {c} {d} {n} {b} {b'} j a up most w k =
       each = λ i h. ⊎-elim
           (λ e. subst (λ (m : ℕ). Kept d b' (firstOf m)) (sym e) k)
           (λ q. kept-mono up most (frame-kept (untouched j i w q) (a .each i h)))
-          (same i j);
+          (equal-or-not i j);
     }
 
 pub nack-at-most : (n : Nack) → oneNack n ≤ 1

@@ -9,13 +9,17 @@ use Rattle.phy.specs.declared.packet.Nack.{Nack}
 use Rattle.phy.specs.declared.packet.Packet.{Packet}
 use Rattle.phy.specs.declared.packet.Piggyback.{Piggyback}
 use Rattle.protocol.specs.Paxos.{State, empty}
-use Rattle.protocol.specs.Turns.{Initiated, Taken, counted, initiatorTurn, participantTurn}
+use Rattle.protocol.specs.Turns.{Initiated, Participated, counterAfter, initiatorTurn, participantTurn}
 
 -- A record: a term, the first slot of the round that proposed it, and the slot at which it was first newly committed.
 pub record Record : Type 0 where
   pub id : ℕ
   pub start : ℕ
   pub end : ℕ
+
+-- a record's numbers
+abbrev pub recordTriple : Record → List ℕ
+recordTriple r = r .id ∷ r .start ∷ r .end ∷ []
 
 -- node j's Paxos state
 abbrev pub stateOf : List State → ℕ → State
@@ -66,7 +70,7 @@ prepareRound n proposals i slot s =
     record {
       shared = record {
         states = set (s .states) i (turn .state);
-        counter = counted proposes (s .counter);
+        counter = counterAfter proposes (s .counter);
         starts = starts;
         records = recordAll starts slot (turn .newly) (s .records);
         piggyback = s .piggyback;
@@ -89,7 +93,7 @@ onePiggyback (Piggyback.Of t d) = 1
 -- counts one piggyback and sets the next
 unfoldable pub takeTurn : Packet → ℕ → ℕ → Shared → Shared
 takeTurn packet slot j s =
-    let turn : Taken = participantTurn j packet (stateOf (s .states) j) in
+    let turn : Participated = participantTurn j packet (stateOf (s .states) j) in
     record {
       states = set (s .states) j (turn .state);
       counter = s .counter;

@@ -5,7 +5,7 @@ use mathlib.Core.Bool.{Bool, cond}
 use lib.Dec.{leb}
 use mathlib.Core.List.{List, [], _∷_, _++_}
 use lib.ListN.{length, getD, take}
-use Rattle.config.specs.Limits.{maxNodes, maxTerms, recordSize, recordsSize}
+use Rattle.config.specs.Limits.{maxNodes, maxTerms, countBound, recordSize, recordsSize}
 use Rattle.random.specs.Table.{tabulate}
 use Rattle.network.specs.Graph.{has, count}
 use Rattle.network.specs.declared.units.NodeId.{NodeId}
@@ -15,6 +15,7 @@ use Rattle.phy.specs.declared.packet.Piggyback.{Piggyback}
 use Rattle.protocol.specs.Layout.{nodeSize, firstOf}
 use Rattle.protocol.specs.Paxos.{State}
 use Rattle.protocol.specs.View.{view, Kept, TermsBelow, backBelow}
+use Rattle.pipeline.specs.declared.records.ProposalRecord.{ProposalRecord}
 use Rattle.pipeline.specs.declared.records.Recorded.{Recorded}
 use Rattle.pipeline.specs.declared.carry.Carry.{Carry}
 use Rattle.pipeline.specs.declared.round.PreparedRound.{PreparedRound}
@@ -31,6 +32,10 @@ historySize = recordsPlace + recordsSize
 -- where record k begins
 abbrev pub recordPlace : ℕ → ℕ
 recordPlace k = recordsPlace + recordSize * k
+
+-- the record that the code's struct stands for
+abbrev pub recordOf : ProposalRecord → Record
+recordOf r = record { id = r .id .0; start = r .start .0; end = r .end .0 }
 
 abbrev pub recordAt : List ℕ → ℕ → Record
 recordAt t k = record { id = getD t (recordPlace k) 0; start = getD t (recordPlace k + 1) 0; end = getD t (recordPlace k + 2) 0 }
@@ -107,14 +112,10 @@ pub record Sharing (n : ℕ) (x : Carry) (b t : List ℕ) : Type 0 where
   pub recording : Recording (x .recorded) t
   pub back : backBelow (x .counter) (x .piggyback)
 
--- NACKs and piggybacks stay below this
-abbrev pub mostCounted : ℕ
-mostCounted = 2 ^ 40
-
 -- node i of n may prepare a round
 pub record MayPrepare (n proposals : ℕ) (i : NodeId) (x : Carry) (b t : List ℕ) : Type 0 where
   pub sharing : Sharing n x b t
-  pub nacks : x .nacks < mostCounted
+  pub nacks : x .nacks < countBound
   pub initiator : i .0 < n
   pub two : 2 ≤ n
   pub nodes : n ≤ maxNodes
@@ -147,7 +148,7 @@ pub record MayTake (packet : Packet) (j : NodeId) (x : Carry) (b t : List ℕ) :
   pub sharing : Sharing n x b t
   pub node : j .0 < n
   pub nodes : n ≤ maxNodes
-  pub piggybacks : x .piggybacks < mostCounted
+  pub piggybacks : x .piggybacks < countBound
   pub below : TermsBelow (x .counter) packet
 
 -- a turn of node j came from x, b and t to r, b' and t': that of the definitions
@@ -161,7 +162,7 @@ pub record TakesTurn (packet : Packet) (slot : Slot) (j : NodeId) (x : Carry) (b
 -- n nodes may process a round
 pub record MayProcess (n : ℕ) (packet : Packet) (x : Carry) (b t : List ℕ) : Type 0 where
   pub sharing : Sharing n x b t
-  pub piggybacks : x .piggybacks + maxNodes < mostCounted
+  pub piggybacks : x .piggybacks + maxNodes < countBound
   pub nodes : n ≤ maxNodes
   pub below : TermsBelow (x .counter) packet
 

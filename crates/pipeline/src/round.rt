@@ -1,10 +1,12 @@
 // The nodes' part of a round, after ctsim's sim/paxos_pipeline.rs.
 use super::carry::Carry;
 use super::records::HISTORY_SIZE;
+use super::records::put_start;
 use super::records::record_all;
 use network::graph::full_set;
 use network::units::NodeId;
 use network::units::Slot;
+use network::units::Term;
 use phy::packet::Nack;
 use phy::packet::Packet;
 use phy::packet::Piggyback;
@@ -14,9 +16,9 @@ use protocol::turns::participant_turn;
 ghost use mathlib.Core.Path.{_≡_};
 ghost use mathlib.Core.Bool.{cond};
 ghost use Prim.Native.Nat.{_+_, _≤_, _<_};
-ghost use Rattle.config.specs.Limits.{maxTerms};
+ghost use Rattle.config.specs.Limits.{maxTerms, countBound};
 ghost use Rattle.pipeline.specs.Round.{oneNack};
-ghost use Rattle.pipeline.specs.View.{Started, Starts, MayPrepare, Prepares, MayTake, TakesTurn, MayProcess, Processes, mostCounted, replaced, withoutPiggyback};
+ghost use Rattle.pipeline.specs.View.{Started, Starts, MayPrepare, Prepares, MayTake, TakesTurn, MayProcess, Processes, replaced, withoutPiggyback};
 
 // What the rounds carry after `prepare_round`, and the packet to be flooded.
 pub struct PreparedRound {
@@ -45,7 +47,7 @@ fn keep_start(history: &mut [u64; HISTORY_SIZE], counter: u64, proposes: bool, s
     ensures { λ _. ⌜ Starts counter proposes (slot .0) (now (history .entry)) (now (history .exit)) ⌝ }
 {
     if proposes {
-        history[counter as usize] = slot.0;
+        put_start(history, Term(counter), slot);
     }
 }
 
@@ -86,7 +88,7 @@ pub fn prepare_round(
 
 // A turn's piggyback, if there is one, in the place of that before it, and counted.
 fn recovered(y: Carry, recovery: Piggyback) -> Carry
-    requires { ⌜ y .piggybacks < mostCounted ⌝ }
+    requires { ⌜ y .piggybacks < countBound ⌝ }
     ensures { λ r. ⌜ r ≡ replaced recovery y ⌝ }
 {
     match recovery {

@@ -22,7 +22,7 @@ use Rattle.rules.proofs.ExactRounds.{exact-rounds}
 use Rattle.network.specs.Graph.{has, setOf, any, all, count, linked, widened}
 use Rattle.network.specs.Distance.{spread, reaches, firstWith, distance, links, greatest, eccentricity, diameter}
 use Rattle.network.specs.Topology.{topologyRow, topologyRows}
-use Rattle.random.specs.Reception.{fraction, heard}
+use Rattle.random.specs.Reception.{fraction, heardAt}
 use Rattle.random.specs.Table.{tabulate}
 use Rattle.phy.specs.Node.{tick, transition}
 use Rattle.phy.specs.Slot.{among, receivers, insert, attempt, attemptAll, takeOne, takeWhile, ticked, snapshot, triesIn, moved, slotStep, sumOf}
@@ -70,9 +70,9 @@ summary =
       snapshots = 3;
     }
 
-answered : outcomeFor (ofTopology 2 3 0) printed (replicate logSize 0) (replicate recordsSize 0) [] .answer ≡ Ran summary
-unfolding has setOf any all count linked widened spread reaches firstWith distance links greatest eccentricity diameter topologyRow topologyRows fraction heard tabulate tick transition among receivers insert attempt attemptAll snapshotsWith flatten takeOne takeWhile ticked snapshot triesIn moved slotStep begun slots delivered participants coverage round samePacket unionIn union size logged hold holdNew mergeVotesUpTo greatestQuorum commitTerm commitBelow newlyBelow commitTo newlyTo gapIn detectGap find recovery announce initiatorTurn takeData takePiggyback takeVotes participantTurn rateAllowed rowsRefusal topologyRefusal recorded recordAll prepareRound takeTurn turns processRound shortestFrom runRound complete endAfter roundsFrom runFor sumOf logsWith recordNumbers ranWith runOfRows runOfTopology onesIn Ieee.le
-answered = refl
+printed-answer : outcomeFor (ofTopology 2 3 0) printed (replicate logSize 0) (replicate recordsSize 0) [] .answer ≡ Ran summary
+unfolding has setOf any all count linked widened spread reaches firstWith distance links greatest eccentricity diameter topologyRow topologyRows fraction heardAt tabulate tick transition among receivers insert attempt attemptAll snapshotsWith flatten takeOne takeWhile ticked snapshot triesIn moved slotStep begun slots delivered participants coverage round samePacket unionIn union size logged hold holdNew mergeVotesUpTo greatestQuorum commitTerm commitBelow newlyBelow commitTo newlyTo gapIn detectGap find recovery announce initiatorTurn takeData takePiggyback takeVotes participantTurn rateAllowed rowsRefusal topologyRefusal recorded recordAll prepareRound takeTurn turns processRound shortestFrom runRound complete endAfter roundsFrom runFor sumOf logsWith recordNumbers ranWith runOfRows runOfTopology onesIn Ieee.le
+printed-answer = refl
 
 fits : Suited (givenFor (ofTopology 2 3 0) printed)
 unfolding diameter greatest eccentricity links firstWith reaches spread setOf any linked has widened topologyRows topologyRow tabulate
@@ -85,7 +85,7 @@ fits =
     }
 
 pub printed-none-lost : NoneLost (ofTopology 2 3 0) printed (replicate logSize 0) (replicate recordsSize 0) [] summary
-printed-none-lost = record { accepted = answered; received = refl; suited = fits }
+printed-none-lost = record { accepted = printed-answer; equal = refl; suited = fits }
 
 pub printed-exact : ExactRounds (givenFor (ofTopology 2 3 0) printed) (run (givenFor (ofTopology 2 3 0) printed)) summary
     (outcomeFor (ofTopology 2 3 0) printed (replicate logSize 0) (replicate recordsSize 0) [] .logs) (outcomeFor (ofTopology 2 3 0) printed (replicate logSize 0) (replicate recordsSize 0) [] .records)

@@ -4,7 +4,7 @@ use mathlib.Core.Path.{_≡_, refl}
 use mathlib.Core.List.{List, [], _∷_, _++_}
 use lib.ListN.{replicate}
 use Rattle.listing.specs.Ascii.{ascii}
-use Rattle.line.specs.Line.{before, prefixed, fields, isDash, roundSlots, _>>=_, fourDecimals, readFields, readLine}
+use Rattle.line.specs.Line.{bytesBefore, prefixed, fields, isDash, roundSlots, _>>=_, fourDecimals, readFields, readLine}
 use Rattle.listing.specs.Listing.{spelledIn, spelled, labelled, each, runLine, radioLine, linkLine, proposalLine, snapshotLine, termText, logLine, listing}
 use Rattle.line.specs.Numeral.{digit, allDigits, append, numeral, decimal, hexadecimal}
 use Rattle.line.specs.declared.read.Line.{Line}
@@ -13,8 +13,8 @@ use Rattle.config.specs.declared.RoundSlots.the-variants.{Absent}
 use Rattle.metrics.specs.declared.summary.Summary.{Summary}
 
 -- a line of three nodes, one repeat, no loss, seed 7, one proposal, a snapshot every 2 slots, at most 1,000 slots
-abbrev asked : Line
-asked =
+abbrev exampleLine : Line
+exampleLine =
     record {
       topology = 2;
       first = 3;
@@ -60,9 +60,9 @@ abbrev logs : List ℕ
 logs = replicate 2048 0 ++ (1 ∷ 1 ∷ 1 ∷ [])
 
 pub printed :
-    (readLine (ascii "2 3 0 1 - 0000000000000000 7 1 2 1000\n") ≡ Read·Line asked)
+    (readLine (ascii "2 3 0 1 - 0000000000000000 7 1 2 1000\n") ≡ Read·Line exampleLine)
     × (listing summary records snapshots logs
     ≡ ascii "nodes 3 rounds 2 slots 5 ended 1\nlisten 5 flood 6 sleep 4\nlinks 4 4 floods 2 6 6 recovery 0 0\nproposal 0 0 3 3\nsnapshot 0 0 2 1 0\nsnapshot 2 0 0 1 2\nsnapshot 4 0 0 2 1\nlog 0 0\nlog 1 0\nlog 2 0\n")
-unfolding ascii before prefixed fields isDash roundSlots _>>=_ fourDecimals readFields readLine digit allDigits append numeral decimal hexadecimal
+unfolding ascii bytesBefore prefixed fields isDash roundSlots _>>=_ fourDecimals readFields readLine digit allDigits append numeral decimal hexadecimal
     spelledIn spelled labelled each runLine radioLine linkLine proposalLine snapshotLine termText logLine listing
 printed = (refl, refl)

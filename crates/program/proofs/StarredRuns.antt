@@ -12,7 +12,7 @@ use lib.Ieee.{ofBits, binary64}
 use lib.ListN.{length, replicate}
 use Rattle.network.specs.Distance.{links, greatest, eccentricity, diameter}
 use Rattle.network.specs.Graph.{has, setOf, any, all, count, linked, widened}
-use Rattle.random.specs.Reception.{fraction, heard, received}
+use Rattle.random.specs.Reception.{fraction, heardAt, succeeds}
 use Rattle.random.specs.Table.{tabulate}
 use Rattle.network.specs.Topology.{topologyRow, topologyRows}
 use Rattle.network.proofs.Starred.{diameters}
@@ -26,7 +26,7 @@ use Rattle.protocol.specs.Paxos.{union, size, logged, hold, holdNew, mergeVotes
 use Rattle.protocol.specs.Turns.{announce, initiatorTurn, takeData, takePiggyback, takeVotes, participantTurn}
 use Rattle.protocol.proofs.Starred.{starred}
 use Rattle.listing.specs.Ascii.{ascii}
-use Rattle.line.specs.Line.{before, prefixed, fields, isDash, roundSlots, _>>=_, fourDecimals, readFields, readLine}
+use Rattle.line.specs.Line.{bytesBefore, prefixed, fields, isDash, roundSlots, _>>=_, fourDecimals, readFields, readLine}
 use Rattle.listing.specs.Listing.{spelledIn, spelled, labelled, each, runLine, radioLine, linkLine, proposalLine, snapshotLine, termText, logLine, listing}
 use Rattle.line.specs.Numeral.{digit, allDigits, append, numeral, decimal, hexadecimal}
 use Rattle.metrics.specs.declared.summary.Summary.{Summary}
@@ -34,7 +34,7 @@ use Rattle.rules.specs.declared.answer.Answer.the-variants.{Ran}
 use Rattle.config.specs.Limits.{logSize, recordsSize}
 use Rattle.config.specs.declared.Config.{Config}
 use Rattle.rules.specs.Entries.{logsWith, recordNumbers, summaryOf, ranWith, outcomeOf, runOfRows, runOfTopology}
-use Rattle.rules.specs.ExactRounds.{Asked, ofRows, ofTopology, givenFor, outcomeFor}
+use Rattle.rules.specs.ExactRounds.{RowsOrTopology, ofRows, ofTopology, givenFor, outcomeFor}
 use Rattle.program.specs.Printed.{lineText, printed}
 use Rattle.rules.specs.Questions.{rateAllowed, rowsRefusal, topologyRefusal}
 use Rattle.pipeline.specs.Round.{recorded, recordAll, prepareRound, takeTurn, turns, processRound, shortestFrom}
@@ -70,7 +70,7 @@ module _ (seed interval limit : ℕ) (h : 1 ≤ interval) (l : 1 ≤ limit) wher
       ∙ ap (λ (e : Ended). Ran (summaryOf given e)) one-round
 
   star : StarRun (runOfTopology 3 4 0 (idleConfig seed interval limit) (replicate logSize 0) (replicate recordsSize 0) buffer .answer)
-  unfolding has setOf any all count linked widened links greatest eccentricity diameter topologyRow topologyRows heard tabulate tick
+  unfolding has setOf any all count linked widened links greatest eccentricity diameter topologyRow topologyRows heardAt tabulate tick
       transition among receivers insert attempt attemptAll takeOne ticked triesIn moved slotStep begun slots delivered participants coverage round
       runRound sumOf Ieee.le ofBits
   star =
@@ -99,7 +99,7 @@ no-round-of o g logs records snapshots s z e =
     sym (ran-so o g logs records snapshots s e .1) ∙ ap (summaryOf g) (no-round g z) in
     (ap (λ (x : Summary). x .rounds) same, ap (λ (x : Summary). x .ended) same)
 
-limit-0 : (q : Asked) (c : Config) (logs records snapshots : List ℕ) (s : Summary) → c .«max_slots» ≡ 0
+limit-0 : (q : RowsOrTopology) (c : Config) (logs records snapshots : List ℕ) (s : Summary) → c .«max_slots» ≡ 0
     → outcomeFor q c logs records snapshots .answer ≡ Ran s → (s .rounds ≡ 0) × (s .ended ≡ 4)
 unfolding runOfRows runOfTopology
 limit-0 (ofRows rows n) c logs records snapshots s z e =
@@ -109,22 +109,22 @@ limit-0 (ofTopology topology first second) c logs records snapshots s z e =
     logs records snapshots s z e
 
 -- ---- loss 0.5
-received-at : (draw : ℕ) → draw / 2 ^ 11 ≡ 2 ^ 52 → received half draw ≡ true
+succeeds-at : (draw : ℕ) → draw / 2 ^ 11 ≡ 2 ^ 52 → succeeds half draw ≡ true
 unfolding fraction Ieee.le Ieee.round ofBits
-received-at draw e = ap (λ (m : ℕ). Ieee.le half (Ieee.round binary64 false m (2 ^ 53))) e
+succeeds-at draw e = ap (λ (m : ℕ). Ieee.le half (Ieee.round binary64 false m (2 ^ 53))) e
 
-lost-below : (draw : ℕ) → draw / 2 ^ 11 ≡ 2 ^ 52 - 1 → received half draw ≡ false
+lost-below : (draw : ℕ) → draw / 2 ^ 11 ≡ 2 ^ 52 - 1 → succeeds half draw ≡ false
 unfolding fraction Ieee.le Ieee.round ofBits
 lost-below draw e = ap (λ (m : ℕ). Ieee.le half (Ieee.round binary64 false m (2 ^ 53))) e
 
 -- ---- the table
 pub starred-runs : StarredRuns
-unfolding has all count linked widened greatest eccentricity diameter topologyRow topologyRows heard tabulate tick transition among
+unfolding has all count linked widened greatest eccentricity diameter topologyRow topologyRows heardAt tabulate tick transition among
     receivers insert attempt attemptAll snapshotsWith flatten takeOne takeWhile ticked snapshot triesIn moved slotStep begun slots delivered participants
     coverage round samePacket union size logged hold holdNew mergeVotesUpTo greatestQuorum commitTerm commitBelow newlyBelow commitTo newlyTo
     gapIn detectGap find recovery announce initiatorTurn takeData takePiggyback takeVotes participantTurn rateAllowed topologyRefusal recorded
     recordAll prepareRound takeTurn turns processRound shortestFrom runRound complete endAfter roundsFrom runFor sumOf logsWith recordNumbers ranWith
-    runOfTopology Ieee.le ofBits ascii before prefixed fields isDash roundSlots _>>=_ fourDecimals readFields readLine digit allDigits append
+    runOfTopology Ieee.le ofBits ascii bytesBefore prefixed fields isDash roundSlots _>>=_ fourDecimals readFields readLine digit allDigits append
     numeral decimal hexadecimal spelledIn spelled labelled each runLine radioLine linkLine proposalLine snapshotLine termText logLine listing lineText
     printed
 starred-runs =
@@ -138,6 +138,6 @@ starred-runs =
       gap = starred .gap;
       star = star;
       limit-0 = limit-0;
-      received-at = received-at;
+      succeeds-at = succeeds-at;
       lost-below = lost-below;
     }

@@ -7,7 +7,7 @@ use lib.ListN.{replicate}
 use Rattle.config.specs.Limits.{logSize, recordsSize}
 use Rattle.config.specs.declared.Config.{Config}
 use Rattle.line.specs.declared.read.Line.{Line}
-use Rattle.line.specs.Asked.{configOf}
+use Rattle.line.specs.Configured.{configOf}
 use Rattle.listing.specs.Overlay.{Written}
 use Rattle.rules.specs.declared.answer.Answer.{Answer}
 use Rattle.rules.specs.Answers.{outcome}
@@ -25,4 +25,4 @@ line-text l c a logs records snapshots p e =
 -- the same text, within another bound
 pub same-text : {m most : ℕ} {s t before after : List ℕ} {size : ℕ} → m ≤ most → s ≡ t → Written m s before after size → Written most t before after size
 same-text {m} {most} {s} {t} {before} {after} {size} h e w =
-    subst (λ (x : List ℕ). Written most x before after size) e (record { contents = w .contents; counted = w .counted; short = omega (arith, w .short) })
+    subst (λ (x : List ℕ). Written most x before after size) e (record { contents = w .contents; sized = w .sized; at-most = omega (arith, w .at-most) })

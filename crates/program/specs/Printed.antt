@@ -6,7 +6,7 @@ use Rattle.config.specs.Limits.{logSize, recordsSize, listedSize}
 use Rattle.line.specs.declared.read.Line.{Line}
 use Rattle.line.specs.declared.read.Read.{Read}
 use Rattle.line.specs.declared.read.Read.the-variants.{Line as Read·Line, Unreadable}
-use Rattle.line.specs.Asked.{configOf}
+use Rattle.line.specs.Configured.{configOf}
 use Rattle.line.specs.Line.{readLine}
 use Rattle.listing.specs.Listing.{listing, refusal}
 use Rattle.rules.specs.declared.answer.Answer.{Answer}

@@ -7,7 +7,7 @@ use lib.Ieee.{Float, ofBits, binary64}
 use lib.ListN.{replicate}
 use Rattle.network.specs.Distance.{diameter}
 use Rattle.network.specs.Questions.{nodesOf}
-use Rattle.random.specs.Reception.{received}
+use Rattle.random.specs.Reception.{succeeds}
 use Rattle.network.specs.Topology.{topologyOf, topologyRows}
 use Rattle.config.specs.declared.RoundSlots.{RoundSlots}
 use Rattle.phy.specs.Round.{lengthLimit}
@@ -21,7 +21,7 @@ use Rattle.rules.specs.declared.answer.Answer.the-variants.{Ran}
 use Rattle.config.specs.Limits.{logSize, recordsSize, listedSize}
 use Rattle.config.specs.declared.Config.{Config}
 use Rattle.rules.specs.Entries.{terms, runOfTopology}
-use Rattle.rules.specs.ExactRounds.{Asked, outcomeFor}
+use Rattle.rules.specs.ExactRounds.{RowsOrTopology, outcomeFor}
 use Rattle.program.specs.Printed.{printed}
 
 -- the diameter of a topology by its number, its nodes or rows, and its second number
@@ -84,8 +84,8 @@ pub record StarredRuns : Type 0 where
   pub star : (seed interval limit : ℕ) → 1 ≤ interval → 1 ≤ limit →
       StarRun (runOfTopology 3 4 0 (idleConfig seed interval limit) (replicate logSize 0) (replicate recordsSize 0) (replicate listedSize 0) .answer)
   -- limit 0: no round, end 4; for every run of rows or of a topology that is not refused
-  pub limit-0 : (q : Asked) (c : Config) (logs records snapshots : List ℕ) (s : Summary) → c .«max_slots» ≡ 0 →
+  pub limit-0 : (q : RowsOrTopology) (c : Config) (logs records snapshots : List ℕ) (s : Summary) → c .«max_slots» ≡ 0 →
       outcomeFor q c logs records snapshots .answer ≡ Ran s → (s .rounds ≡ 0) × (s .ended ≡ 4)
-  -- loss 0.5: m = 2^52 received, 2^52 - 1 lost; m is the draw's top 53 bits
-  pub received-at : (draw : ℕ) → draw / 2 ^ 11 ≡ 2 ^ 52 → received half draw ≡ true
-  pub lost-below : (draw : ℕ) → draw / 2 ^ 11 ≡ 2 ^ 52 - 1 → received half draw ≡ false
+  -- loss 0.5: m = 2^52 succeeds, 2^52 - 1 is lost; m is the draw's top 53 bits
+  pub succeeds-at : (draw : ℕ) → draw / 2 ^ 11 ≡ 2 ^ 52 → succeeds half draw ≡ true
+  pub lost-below : (draw : ℕ) → draw / 2 ^ 11 ≡ 2 ^ 52 - 1 → succeeds half draw ≡ false

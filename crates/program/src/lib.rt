@@ -2,7 +2,7 @@
 use config::limits::LISTED_SIZE;
 use config::limits::LOG_SIZE;
 use config::limits::RECORDS_SIZE;
-use line::asked::config_of;
+use line::configured::config_of;
 use line::read::Line;
 use line::read::Read;
 use line::read::read_line;

@@ -19,7 +19,7 @@ use Rattle.phy.specs.declared.packet.Packet.{Packet}
 use Rattle.protocol.specs.Layout.{dataPlace, noData}
 use Rattle.protocol.specs.declared.turns.Announced.{Announced}
 use Rattle.protocol.specs.Paxos.{Pending, State, held, union, voted, mergeVotesUpTo, quorum, greatestQuorum, recovery, termSet}
-use Rattle.protocol.specs.Turns.{Initiated, counted, currentTerm, proposalData, announce, initiatorTurn}
+use Rattle.protocol.specs.Turns.{Initiated, counterAfter, currentTerm, proposalData, announce, initiatorTurn}
 use Rattle.protocol.specs.View.{dataOf, dataAt, lastAt, lastOf, pendingOf, view, lastBelow, dataBelow, proposalBelow, backBelow, Kept, Wrote, Next, TermsBelow, Initiates}
 use Rattle.protocol.proofs.Places.{either}
 use Rattle.protocol.proofs.Sets.{union-assoc}
@@ -41,7 +41,7 @@ next-then f p q m n =
 
 voted-twice : (b : Bool) (f g : ℕ) (o : Option Pending) → voted b g (voted b f o) ≡ voted b (union f g) o
 voted-twice b f g none = refl
-voted-twice true f g (some p) = ap (λ (v : ℕ). some (record { votes = v; payload = p .payload })) (union-assoc (p .votes) f g)
+voted-twice true f g (some p) = ap (λ (v : ℕ). some (record { votes = v; «data» = p .«data» })) (union-assoc (p .votes) f g)
 voted-twice false f g (some p) = refl
 
 pub merge-twice : (u f g : ℕ) (s : State) → mergeVotesUpTo u g (mergeVotesUpTo u f s) ≡ mergeVotesUpTo u (union f g) s
@@ -107,18 +107,18 @@ terms-mono {c} {d} {p} h k =
 
 -- ---- the initiator's packet
 
-more : (b : Bool) (c : ℕ) → c ≤ counted b c
+more : (b : Bool) (c : ℕ) → c ≤ counterAfter b c
 more true c = omega arith
 more false c = le-refl c
 
-made : (b : Bool) (c : ℕ) → counted b c ≤ maxTerms → proposalBelow (counted b c) (currentTerm b c) (proposalData b c)
+made : (b : Bool) (c : ℕ) → counterAfter b c ≤ maxTerms → proposalBelow (counterAfter b c) (currentTerm b c) (proposalData b c)
 made true c h = (omega arith, omega arith)
 made false c h = tt
 
 -- the terms of the initiator's packet are below the counter
-pub packet-below : (i n c : ℕ) (b : Bool) (pb : Piggyback) (s : State) → counted b c ≤ maxTerms →
-    lastBelow (counted b c) (initiatorTurn i n c b pb s .state .last) → backBelow c pb →
-    TermsBelow (counted b c) (initiatorTurn i n c b pb s .packet)
+pub packet-below : (i n c : ℕ) (b : Bool) (pb : Piggyback) (s : State) → counterAfter b c ≤ maxTerms →
+    lastBelow (counterAfter b c) (initiatorTurn i n c b pb s .state .last) → backBelow c pb →
+    TermsBelow (counterAfter b c) (initiatorTurn i n c b pb s .packet)
 unfolding initiatorTurn announce
 packet-below i n c b pb s h l k =
     record { last = l; proposal = made b c h; back = back-mono pb (more b c) k }
@@ -129,7 +129,7 @@ last-below-of zero c h = tt
 last-below-of (suc x) c h = h
 
 pub initiates : (i n c : ℕ) (p : Bool) (pb : Piggyback) (at : ℕ) (b b' : List ℕ) (r : Announced) (y : Initiated) →
-    counted p c ≤ maxTerms → Wrote at b b' → Kept (counted p c) b' at → y ≡ initiatorTurn i n c p pb (view b at) →
+    counterAfter p c ≤ maxTerms → Wrote at b b' → Kept (counterAfter p c) b' at → y ≡ initiatorTurn i n c p pb (view b at) →
     view b' at ≡ y .state → r .packet ≡ y .packet → r .newly ≡ termSet (y .newly) → Initiates at i n c p pb b r b'
 unfolding initiatorTurn announce
 initiates i n c p pb at b b' r y h wrote kept e st pk nw =
@@ -143,7 +143,7 @@ initiates i n c p pb at b b' r y h wrote kept e st pk nw =
       packet = sent;
       newly = nw ∙ ap (λ (z : Initiated). termSet (z .newly)) e;
       below = λ k.
-          subst (TermsBelow (counted p c)) (sym sent)
+          subst (TermsBelow (counterAfter p c)) (sym sent)
           (packet-below i n c p pb x h
-          (subst (λ (z : State). lastBelow (counted p c) (z .last)) now (last-below-of (lastAt b' at) (counted p c) (kept .last-below))) k);
+          (subst (λ (z : State). lastBelow (counterAfter p c) (z .last)) now (last-below-of (lastAt b' at) (counterAfter p c) (kept .last-below))) k);
     }

@@ -13,7 +13,7 @@ use lib.Dec.{eqb, ltb}
 use lib.Pow.{pow-mono}
 use Rattle.phy.specs.declared.packet.LastAccepted.{LastAccepted}
 use Rattle.protocol.specs.declared.paxos.Gap.{Gap}
-use Rattle.protocol.specs.Paxos.{LogEntry, Pending, State, logged, held, updated, logEntry, raise, quorum, greatestQuorum, commitTerm, commitBelow, newlyBelow, termSet, after, gapIn, detectGap}
+use Rattle.protocol.specs.Paxos.{LogEntry, Pending, State, logged, held, updated, logEntry, raise, quorum, greatestQuorum, commitTerm, commitBelow, newlyBelow, termSet, afterLast, gapIn, detectGap}
 use Rattle.protocol.proofs.Places.{either}
 use Rattle.protocol.proofs.Sets.{add-high, low-bit, own-bit}
 use Rattle.protocol.proofs.Logs.{logged-append}
@@ -156,9 +156,9 @@ gap-in-none zero t x h = refl
 gap-in-none (suc k) t x h = rw (h t (omega arith) (omega arith)) (gap-in-none k (suc t) x (λ u a b. h u (omega arith) (omega arith)))
 
 -- there is no gap where each term after last accepted is held
-pub gap-none : (c : ℕ) (x : State) → ((t : ℕ) → after (x .last) ≤ t → t < c → held t x ≡ true) → detectGap c x ≡ Gap.None
+pub gap-none : (c : ℕ) (x : State) → ((t : ℕ) → afterLast (x .last) ≤ t → t < c → held t x ≡ true) → detectGap c x ≡ Gap.None
 unfolding detectGap
-gap-none c x h = gap-in-none (c - after (x .last)) (after (x .last)) x (λ u a b. h u a (omega arith))
+gap-none c x h = gap-in-none (c - afterLast (x .last)) (afterLast (x .last)) x (λ u a b. h u a (omega arith))
 
 gap-in-is : (k t g : ℕ) (x : State) → t ≤ g → g < t + k → held g x ≡ false → ((u : ℕ) → t ≤ u → u < g → held u x ≡ true) → gapIn k t x ≡ Gap.At (record { 0 = g })
 unfolding gapIn
@@ -173,7 +173,7 @@ gap-in-is (suc k) t g x l b e h = go (gap-in-is k (suc t) g x) (either (eqb t g)
         rw (h t (omega arith) lt) (ih lt (omega arith) e (λ u a. h u (omega arith)))
 
 -- g is not held, and each term before it after last accepted is
-pub gap-is : (c g : ℕ) (x : State) → after (x .last) ≤ g → g < c → held g x ≡ false → ((t : ℕ) → after (x .last) ≤ t → t < g → held t x ≡ true) →
+pub gap-is : (c g : ℕ) (x : State) → afterLast (x .last) ≤ g → g < c → held g x ≡ false → ((t : ℕ) → afterLast (x .last) ≤ t → t < g → held t x ≡ true) →
     detectGap c x ≡ Gap.At (record { 0 = g })
 unfolding detectGap
-gap-is c g x l b e h = gap-in-is (c - after (x .last)) (after (x .last)) g x l (omega arith) e h
+gap-is c g x l b e h = gap-in-is (c - afterLast (x .last)) (afterLast (x .last)) g x l (omega arith) e h

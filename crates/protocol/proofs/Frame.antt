@@ -12,9 +12,9 @@ use lib.ListN.{length, getD, set, length-set, replicate, length-replicate}
 use lib.Seq.{getD-set-other}
 use Rattle.network.specs.Graph.{has}
 use Rattle.random.specs.Table.{tabulate}
+use Rattle.network.proofs.Lowest.{has-zero}
 use Rattle.network.proofs.Sets.{has-below}
 use Rattle.random.proofs.Tables.{tabulate-cong}
-use Rattle.phy.proofs.Masks.{has-zero}
 use Rattle.protocol.specs.Layout.{dataPlace, logPlace, pendingPlace, loggedPlace, lastPlace, nodeSize}
 use Rattle.protocol.specs.Paxos.{State, logged, empty}
 use Rattle.protocol.specs.View.{lastOf, dataAt, dataOf, termAt, pendingSet, loggedSet, lastAt, entryAt, logOf, pendingOf, view, Distinct, Kept, Wrote}
@@ -85,7 +85,7 @@ module _ {c : ℕ} {b : List ℕ} {at : ℕ} (k : Kept c b at) where
       λ i.
       record {
         term = e i;
-        payload = (ap (dataAt b' at) e ∙ d (termAt b at j) (term-logged j h)) i;
+        «data» = (ap (dataAt b' at) e ∙ d (termAt b at j) (term-logged j h)) i;
       })
 
 -- what is kept speaks of the two sets, last accepted and the log alone
@@ -139,7 +139,7 @@ module _ {c : ℕ} {b b' : List ℕ} {at : ℕ} (s : Same at b b') (k : Kept c b
       (λ e.
       let l = pending-lt k t e in
       rw e
-      (ap₂ (λ (v d : ℕ). some (record { votes = v; payload = dataOf d })) (same-at s (at + t) (omega arith) (omega arith)) (same-at s (at + dataPlace + t) (omega arith) (omega arith))))
+      (ap₂ (λ (v d : ℕ). some (record { votes = v; «data» = dataOf d })) (same-at s (at + t) (omega arith) (omega arith)) (same-at s (at + dataPlace + t) (omega arith) (omega arith))))
       (λ e. rw e)
       (either (has (pendingSet b at) t)))
 

@@ -55,7 +55,7 @@ pub held-is : {c : ℕ} {b : List ℕ} {at : ℕ} → Kept c b at → (t : ℕ) 
 unfolding pendingOf
 held-is {c} {b} {at} k t = rw (k .logged-is t) (ap (λ (x : Bool). has (loggedSet b at) t || x) (go (has (pendingSet b at) t)))
   where
-    go : (x : Bool) → isSome (cond x (some (record { votes = votesAt b at t; payload = dataAt b at t })) none) ≡ x
+    go : (x : Bool) → isSome (cond x (some (record { votes = votesAt b at t; «data» = dataAt b at t })) none) ≡ x
     go true = refl
     go false = refl
 
@@ -74,7 +74,7 @@ pub not-logged : {c : ℕ} {b : List ℕ} {at : ℕ} → Kept c b at → (t : �
 not-logged {c} {b} {at} k t e =
     ⊎-elim (λ w. absurd (true≢false (sym e ∙ k .apart t w))) (λ w. w) (either (has (loggedSet b at) t))
 
-pub pending-at : (b : List ℕ) (at t : ℕ) → has (pendingSet b at) t ≡ true → pendingOf b at t ≡ some (record { votes = votesAt b at t; payload = dataAt b at t })
+pub pending-at : (b : List ℕ) (at t : ℕ) → has (pendingSet b at) t ≡ true → pendingOf b at t ≡ some (record { votes = votesAt b at t; «data» = dataAt b at t })
 unfolding pendingOf
 pending-at b at t e = rw e
 
@@ -89,9 +89,9 @@ unfolding pendingOf
 pending-same b b' at t s e = rw s (go (has (pendingSet b at) t) e)
   where
     go : (x : Bool) → (x ≡ true → (votesAt b' at t ≡ votesAt b at t) × (dataAt b' at t ≡ dataAt b at t)) →
-        cond {A = Option Pending} x (some (record { votes = votesAt b' at t; payload = dataAt b' at t })) none ≡
-        cond x (some (record { votes = votesAt b at t; payload = dataAt b at t })) none
-    go true h = ap₂ (λ (v : ℕ) (d : Data). some (record { votes = v; payload = d })) (h refl .0) (h refl .1)
+        cond {A = Option Pending} x (some (record { votes = votesAt b' at t; «data» = dataAt b' at t })) none ≡
+        cond x (some (record { votes = votesAt b at t; «data» = dataAt b at t })) none
+    go true h = ap₂ (λ (v : ℕ) (d : Data). some (record { votes = v; «data» = d })) (h refl .0) (h refl .1)
     go false h = refl
 
 -- ---- three stores
@@ -227,17 +227,17 @@ module _
       λ i.
       record {
         term = same i;
-        payload = (ap (dataAt (entered b at t e p l) at) same ∙ entered-data (termAt b at j) (logged-lt k (termAt b at j) in-log)) i;
+        «data» = (ap (dataAt (entered b at t e p l) at) same ∙ entered-data (termAt b at j) (logged-lt k (termAt b at j) in-log)) i;
       }
 
-  entry-new : entryAt (entered b at t e p l) at e ≡ record { term = t; payload = dataAt b at t }
+  entry-new : entryAt (entered b at t e p l) at e ≡ record { term = t; «data» = dataAt b at t }
   entry-new = λ i.
       record {
         term = entered-term i;
-        payload = (ap (dataAt (entered b at t e p l) at) entered-term ∙ entered-data t within) i;
+        «data» = (ap (dataAt (entered b at t e p l) at) entered-term ∙ entered-data t within) i;
       }
 
-  entered-log : logOf (entered b at t e p l) at ≡ logOf b at ++ (record { term = t; payload = dataAt b at t } ∷ [])
+  entered-log : logOf (entered b at t e p l) at ≡ logOf b at ++ (record { term = t; «data» = dataAt b at t } ∷ [])
   unfolding logOf
   entered-log =
       ap (λ (n : ℕ). tabulate n (entryAt (entered b at t e p l) at)) (ap ones entered-logged-set ∙ longer) ∙
@@ -288,10 +288,10 @@ module _
             (sym (has-more j) ∙ g);
         logged-is = λ j.
             ap (logged j) entered-log ∙
-            logged-append j (logOf b at) (record { term = t; payload = dataAt b at t } ∷ []) ∙
+            logged-append j (logOf b at) (record { term = t; «data» = dataAt b at t } ∷ []) ∙
             ap₂ _||_ (k .logged-is j) (or-false (eqb j t)) ∙ sym (has-more j);
         distinct = rw entered-log
-            (distinct-append (logOf b at) (record { term = t; payload = dataAt b at t }) (k .distinct) (k .logged-is t ∙ free));
+            (distinct-append (logOf b at) (record { term = t; «data» = dataAt b at t }) (k .distinct) (k .logged-is t ∙ free));
       }
 
 -- ---- a term becomes pending
@@ -356,15 +356,15 @@ module _
   has-held : (j : ℕ) → has (pendingSet (heldAt b at t v d p) at) j ≡ (has (pendingSet b at) j || eqb j t)
   has-held j = ap (λ (x : ℕ). has x j) (held-pending-set ∙ more) ∙ has-with (pendingSet b at) t j
 
-  pub held-pending : (j : ℕ) → pendingOf (heldAt b at t v d p) at j ≡ updated t (some (record { votes = v; payload = dataOf d })) (pendingOf b at) j
+  pub held-pending : (j : ℕ) → pendingOf (heldAt b at t v d p) at j ≡ updated t (some (record { votes = v; «data» = dataOf d })) (pendingOf b at) j
   held-pending j =
       same-or
       (λ (x : Bool). has (pendingSet (heldAt b at t v d p) at) j ≡ (has (pendingSet b at) j || x) →
-      pendingOf (heldAt b at t v d p) at j ≡ cond x (some (record { votes = v; payload = dataOf d })) (pendingOf b at j))
+      pendingOf (heldAt b at t v d p) at j ≡ cond x (some (record { votes = v; «data» = dataOf d })) (pendingOf b at j))
       j t
       (λ q e.
       pending-at (heldAt b at t v d p) at j (e ∙ or-true (has (pendingSet b at) j)) ∙
-      ap₂ (λ (x : ℕ) (y : Data). some (record { votes = x; payload = y }))
+      ap₂ (λ (x : ℕ) (y : Data). some (record { votes = x; «data» = y }))
       (ap (votesAt (heldAt b at t v d p) at) q ∙ held-votes) (ap (dataAt (heldAt b at t v d p) at) q ∙ held-data))
       (λ q e. pending-same b (heldAt b at t v d p) at j (e ∙ or-false (has (pendingSet b at) j))
       (λ y.

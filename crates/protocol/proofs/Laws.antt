@@ -19,7 +19,7 @@ use Rattle.protocol.specs.Turns.{propose, quorumTerm, announce, initiato
 use Rattle.protocol.specs.View.{Distinct}
 use Rattle.protocol.specs.Growth.{Extends, Rises, StaysPending, Apart, dataFor, ownPending, ownLog, Own}
 use Rattle.protocol.proofs.Places.{same-or, either}
-use Rattle.protocol.proofs.Logs.{logged-append, distinct-append, or-left}
+use Rattle.protocol.proofs.Logs.{logged-append, distinct-append, or-left-false}
 use Rattle.protocol.proofs.Sets.{union-bit}
 use Rattle.protocol.proofs.Commit.{one-logged}
 use Rattle.protocol.proofs.Growing.{by-log, extends-trans, extends-logged, term-extends, rises-trans, term-rises}
@@ -95,10 +95,10 @@ module _ (D : ℕ → Data → Type 0) (Q : State → Type 0) (k : Keeps D Q) wh
 
 -- ---- a turn never removes a term from a log or reorders it
 
-abbrev pub Any : ℕ → Data → Type 0
-Any t d = Unit {0}
+abbrev pub AnyData : ℕ → Data → Type 0
+AnyData t d = Unit {0}
 
-pub log-extends : (l : List LogEntry) → Keeps Any (λ s. Extends l (s .log))
+pub log-extends : (l : List LogEntry) → Keeps AnyData (λ s. Extends l (s .log))
 unfolding hold mergeVotesUpTo
 log-extends l =
     record {
@@ -109,7 +109,7 @@ log-extends l =
 
 -- ---- last accepted never falls
 
-pub last-rises : (l : LastAccepted) → Keeps Any (λ s. Rises l (s .last))
+pub last-rises : (l : LastAccepted) → Keeps AnyData (λ s. Rises l (s .last))
 unfolding hold mergeVotesUpTo
 last-rises l =
     record {
@@ -128,7 +128,7 @@ entry-logged : (t : ℕ) (q : Pending) → logged t (logEntry t (some q)) ≡ tr
 unfolding logged
 entry-logged t q = ap (λ (b : Bool). b || false) (eq-eqb t t refl)
 
-pub votes-stand : (t : ℕ) (p : Pending) → Keeps Any (StaysPending t p)
+pub votes-stand : (t : ℕ) (p : Pending) → Keeps AnyData (StaysPending t p)
 unfolding hold mergeVotesUpTo
 votes-stand t p =
     record {
@@ -163,13 +163,13 @@ votes-stand t p =
         )
 
     holding : (u v : ℕ) (d : Data) (s : State) → eqb t u ≡ false → StaysPending t p s → StaysPending t p (hold u v d s)
-    holding u v d s e (inl w) = inl (w .0, ap (λ (b : Bool). cond b (some (record { votes = v; payload = d })) (s .pending t)) e ∙ w .1, w .2, w .3)
-    holding u v d s e (inr w) = inr (w .0, ap (λ (b : Bool). cond b (some (record { votes = v; payload = d })) (s .pending t)) e ∙ w .1)
+    holding u v d s e (inl w) = inl (w .0, ap (λ (b : Bool). cond b (some (record { votes = v; «data» = d })) (s .pending t)) e ∙ w .1, w .2, w .3)
+    holding u v d s e (inr w) = inr (w .0, ap (λ (b : Bool). cond b (some (record { votes = v; «data» = d })) (s .pending t)) e ∙ w .1)
 
     merging : (u f : ℕ) (s : State) (b : Bool) → leb t u ≡ b → StaysPending t p s → StaysPending t p (mergeVotesUpTo u f s)
     merging u f s true e (inl w) =
         inl (
-          record { votes = union (w .0 .votes) f; payload = w .0 .payload },
+          record { votes = union (w .0 .votes) f; «data» = w .0 .«data» },
           rw (e, w .1),
           (λ i h. rw (union-bit i (w .0 .votes) f h) (omega (arith, w .2 i h))),
           w .3,
@@ -179,7 +179,7 @@ votes-stand t p =
 
 -- ---- no log repeats a term, and no term is both logged and pending
 
-pub kept-apart : Keeps Any Apart
+pub kept-apart : Keeps AnyData Apart
 unfolding hold mergeVotesUpTo
 kept-apart =
     record {
@@ -191,7 +191,7 @@ kept-apart =
   where
     entering : (t : ℕ) (l : List LogEntry) (o : Option Pending) → logged t l ≡ false → Distinct l → Distinct (l ++ logEntry t o)
     entering t l none e d = rw (append-nil l) d
-    entering t l (some p) e d = distinct-append l (record { term = t; payload = p .payload }) d e
+    entering t l (some p) e d = distinct-append l (record { term = t; «data» = p .«data» }) d e
 
     entered : (t : ℕ) (s : State) → Apart s → (j : ℕ) → logged j (s .log ++ logEntry t (s .pending t)) ≡ true →
         (eqb j t ≡ true) ⊎ (eqb j t ≡ false) → updated t none (s .pending) j ≡ none
@@ -204,11 +204,11 @@ kept-apart =
         sym (logged-append j (s .log) (logEntry t (s .pending t))) ∙ h)
 
     holding : (t v : ℕ) (d : Data) (s : State) → held t s ≡ false → Apart s → (j : ℕ) → logged j (s .log) ≡ true →
-        (eqb j t ≡ true) ⊎ (eqb j t ≡ false) → updated t (some (record { votes = v; payload = d })) (s .pending) j ≡ none
+        (eqb j t ≡ true) ⊎ (eqb j t ≡ false) → updated t (some (record { votes = v; «data» = d })) (s .pending) j ≡ none
     holding t v d s e q j h (inl w) =
-        absurd (true≢false (sym h ∙ ap (λ (i : ℕ). logged i (s .log)) (eqb-true j t w) ∙ or-left (logged t (s .log)) (isSome (s .pending t)) e))
+        absurd (true≢false (sym h ∙ ap (λ (i : ℕ). logged i (s .log)) (eqb-true j t w) ∙ or-left-false (logged t (s .log)) (isSome (s .pending t)) e))
     holding t v d s e q j h (inr w) =
-        ap (λ (b : Bool). cond b (some (record { votes = v; payload = d })) (s .pending j)) w ∙ q .apart j h
+        ap (λ (b : Bool). cond b (some (record { votes = v; «data» = d })) (s .pending j)) w ∙ q .apart j h
 
 -- ---- every logged or pending term carries its own data, if the packet's do
 
@@ -227,7 +227,7 @@ kept-own =
       holds = λ t v d s e a q.
           record {
             log = q .log;
-            pending = λ j. same-or (λ (b : Bool). ownPending j (cond b (some (record { votes = v; payload = d })) (s .pending j))) j t
+            pending = λ j. same-or (λ (b : Bool). ownPending j (cond b (some (record { votes = v; «data» = d })) (s .pending j))) j t
                 (λ g. a ∙ ap dataFor (sym g)) (λ g. q .pending j);
           };
       merges = λ u f s q. record { log = q .log; pending = λ j. voting j (leb j u) f (s .pending j) (q .pending j) };

@@ -13,13 +13,13 @@ use Rattle.protocol.specs.Paxos.{LogEntry, logged, find}
 use Rattle.protocol.specs.View.{Distinct}
 use Rattle.protocol.proofs.Places.{eqb-sym, same-or}
 
-pub or-left : (a b : Bool) → (a || b) ≡ false → a ≡ false
-or-left true b e = e
-or-left false b e = refl
+pub or-left-false : (a b : Bool) → (a || b) ≡ false → a ≡ false
+or-left-false true b e = e
+or-left-false false b e = refl
 
-pub or-right : (a b : Bool) → (a || b) ≡ false → b ≡ false
-or-right true b e = absurd (subst (λ (x : Bool). cond x (Unit {0}) ⊥) e tt)
-or-right false b e = e
+pub or-right-false : (a b : Bool) → (a || b) ≡ false → b ≡ false
+or-right-false true b e = absurd (subst (λ (x : Bool). cond x (Unit {0}) ⊥) e tt)
+or-right-false false b e = e
 
 or-assoc : (a b c : Bool) → (a || (b || c)) ≡ ((a || b) || c)
 or-assoc true b c = refl
@@ -35,8 +35,8 @@ unfolding Distinct logged
 distinct-append [] e d h = (refl, tt)
 distinct-append (x ∷ l) e d h = (
   (logged-append (x .term) l (e ∷ []) ∙ ap₂ (λ (a b : Bool). a || (b || false)) (d .0)
-      (eqb-sym (x .term) (e .term) ∙ or-left (eqb (e .term) (x .term)) (logged (e .term) l) h)),
-  distinct-append l e (d .1) (or-right (eqb (e .term) (x .term)) (logged (e .term) l) h),
+      (eqb-sym (x .term) (e .term) ∙ or-left-false (eqb (e .term) (x .term)) (logged (e .term) l) h)),
+  distinct-append l e (d .1) (or-right-false (eqb (e .term) (x .term)) (logged (e .term) l) h),
 )
 
 -- each entry of a log is logged
@@ -49,13 +49,13 @@ logged-each (suc n) f (suc k) h =
     or-true (eqb (f (suc k) .term) (f zero .term))
 
 -- where a term's data are those of the term, a logged term is found with them
-pub find-by-term : (d : ℕ → Data) (t n : ℕ) (f : ℕ → LogEntry) → ((k : ℕ) → f k .payload ≡ d (f k .term)) →
+pub find-by-term : (d : ℕ → Data) (t n : ℕ) (f : ℕ → LogEntry) → ((k : ℕ) → f k .«data» ≡ d (f k .term)) →
     find t (tabulate n f) ≡ cond (logged t (tabulate n f)) (some (d t)) none
 unfolding logged find tabulate
 find-by-term d t zero f h = refl
 find-by-term d t (suc n) f h =
     same-or
-    (λ (b : Bool). cond b (some (f zero .payload)) (find t (tabulate n (λ (i : ℕ). f (suc i)))) ≡
+    (λ (b : Bool). cond b (some (f zero .«data»)) (find t (tabulate n (λ (i : ℕ). f (suc i)))) ≡
     cond (b || logged t (tabulate n (λ (i : ℕ). f (suc i)))) (some (d t)) none)
     t (f zero .term)
     (λ q. ap {B = Option Data} some (h zero ∙ ap d (sym q)))

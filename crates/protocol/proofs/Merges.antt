@@ -90,7 +90,7 @@ module _ (at : ℕ) (b : List ℕ) (f i t : ℕ) (b' : List ℕ) (m : Merged at 
           omega (arith, leb-true (t - 1) u (both .1))
 
       merged : (j : ℕ) → has (pendingSet b at) j ≡ true → (leb j u ≡ true) ⊎ (leb j u ≡ false) →
-          _≡_ {A = Option Pending} (some (record { votes = votesAt b' at j; payload = dataAt b at j })) (voted (leb j u) f (some (record { votes = votesAt b at j; payload = dataAt b at j })))
+          _≡_ {A = Option Pending} (some (record { votes = votesAt b' at j; «data» = dataAt b at j })) (voted (leb j u) f (some (record { votes = votesAt b at j; «data» = dataAt b at j })))
       merged j e (inl l) =
           let h = has-s j (pending-lt k j e) ∙ ap₂ _&&_ e l in
           rw (l, m .votes j (from j h) (has-below above j h))
@@ -107,7 +107,7 @@ module _ (at : ℕ) (b : List ℕ) (f i t : ℕ) (b' : List ℕ) (m : Merged at 
           (λ e.
           rw (pending-at b at j e)
           (pending-at b' at j (ap (λ (x : ℕ). has x j) pend ∙ e) ∙
-          ap (λ (d : Data). some (record { votes = votesAt b' at j; payload = d })) (ap dataOf (m .behind (at + dataPlace + j) (omega arith))) ∙
+          ap (λ (d : Data). some (record { votes = votesAt b' at j; «data» = d })) (ap dataOf (m .behind (at + dataPlace + j) (omega arith))) ∙
           merged j e (either (leb j u))))
           (λ e. rw (pending-none b at j e) (pending-none b' at j (ap (λ (x : ℕ). has x j) pend ∙ e)))
           (either (has (pendingSet b at) j))

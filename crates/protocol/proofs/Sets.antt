@@ -16,7 +16,7 @@ use Rattle.network.proofs.Lowest.{half-shift}
 use Rattle.protocol.specs.Paxos.{unionIn, union, size, vote}
 use Rattle.protocol.proofs.Places.{either}
 
-half-lt : (k a : ℕ) → a < 2 ^ suc k → a / 2 < 2 ^ k
+pub half-lt : (k a : ℕ) → a < 2 ^ suc k → a / 2 < 2 ^ k
 half-lt k a h = shr-lt k 1 (rw add-one h)
 
 union-in : (k a b : ℕ) → a < 2 ^ k → b < 2 ^ k → unionIn k a b ≡ bitOr a b
@@ -30,15 +30,15 @@ pub union-or : (a b : ℕ) → a < 2 ^ 64 → b < 2 ^ 64 → union a b ≡ bitOr
 unfolding union
 union-or a b ha hb = union-in 64 a b ha hb
 
-size-in : (k a : ℕ) → a < 2 ^ k → onesIn k a ≡ ones a
+size-ones-in : (k a : ℕ) → a < 2 ^ k → onesIn k a ≡ ones a
 unfolding onesIn ones
-size-in zero a h = rw (lt-one h)
-size-in (suc k) a h =
-    ap (λ (x : ℕ). a % 2 + x) (size-in k (a / 2) (half-lt k a h)) ∙ sym (ones-step a)
+size-ones-in zero a h = rw (lt-one h)
+size-ones-in (suc k) a h =
+    ap (λ (x : ℕ). a % 2 + x) (size-ones-in k (a / 2) (half-lt k a h)) ∙ sym (ones-step a)
 
 pub size-ones : (a : ℕ) → a < 2 ^ 64 → size a ≡ ones a
 unfolding size
-size-ones a h = size-in 64 a h
+size-ones a h = size-ones-in 64 a h
 
 one-bit : (i : ℕ) → ones (2 ^ i) ≡ 1
 unfolding ones
@@ -114,19 +114,6 @@ vote-bit i j = go (either (eqb j i)) (either (ltb j i))
     go (inr e) (inl l) = rw e (rw zero-add at (add-high j i 0 (ltb-true j i l)) ∙ rw (zero-div (2 ^ j)))
     go (inr e) (inr l) = rw e (low-bit j (2 ^ i) (pow-lt (omega (arith, ltb-false j i l, eqb-false j i e))))
 
--- ---- sets are equal if they have the same nodes
-
-ext-in : (k a b : ℕ) → a < 2 ^ k → b < 2 ^ k → ((i : ℕ) → i < k → a / 2 ^ i % 2 ≡ b / 2 ^ i % 2) → a ≡ b
-ext-in zero a b ha hb h = lt-one ha ∙ sym (lt-one hb)
-ext-in (suc k) a b ha hb h =
-    let lowest : a % 2 ≡ b % 2 = omega (arith, h 0 (omega arith)) in
-    let rest = ext-in k (a / 2) (b / 2) (half-lt k a ha) (half-lt k b hb)
-    (λ i g. sym (ap (λ (x : ℕ). x % 2) (half-shift a i)) ∙ h (suc i) (omega arith) ∙ ap (λ (x : ℕ). x % 2) (half-shift b i)) in
-    omega arith
-
-pub set-ext : (a b : ℕ) → a < 2 ^ 64 → b < 2 ^ 64 → ((i : ℕ) → i < 64 → a / 2 ^ i % 2 ≡ b / 2 ^ i % 2) → a ≡ b
-set-ext = ext-in 64
-
 union-lt-in : (k a b : ℕ) → unionIn k a b < 2 ^ k
 unfolding unionIn
 union-lt-in zero a b = omega arith
@@ -138,19 +125,19 @@ union-lt a b = union-lt-in 64 a b
 
 -- ---- one node more
 
-size-none : (k a : ℕ) → onesIn k (unionIn k a 0) ≡ onesIn k a
+size-joined-none : (k a : ℕ) → onesIn k (unionIn k a 0) ≡ onesIn k a
 unfolding onesIn unionIn
-size-none zero a = refl
-size-none (suc k) a =
+size-joined-none zero a = refl
+size-joined-none (suc k) a =
     let e : (unionIn k (a / 2) 0 * 2 + max (a % 2) 0) / 2 ≡ unionIn k (a / 2) 0 = omega arith in
-    rw e (omega (arith, size-none k (a / 2)))
+    rw e (omega (arith, size-joined-none k (a / 2)))
 
 size-more-in : (k i a : ℕ) → i < k → a / 2 ^ i % 2 ≡ 0 → onesIn k (unionIn k a (2 ^ i)) ≡ onesIn k a + 1
 unfolding onesIn unionIn
 size-more-in zero i a h e = absurd (omega arith)
 size-more-in (suc k) zero a h e =
     let f : (unionIn k (a / 2) 0 * 2 + max (a % 2) 1) / 2 ≡ unionIn k (a / 2) 0 = omega arith in
-    rw f (omega (arith, size-none k (a / 2)))
+    rw f (omega (arith, size-joined-none k (a / 2)))
 size-more-in (suc k) (suc i) a h e =
     let half : 2 ^ suc i / 2 ≡ 2 ^ i = omega (arith, pow-suc 2 i) in
     let even : 2 ^ suc i % 2 ≡ 0 = omega (arith, pow-suc 2 i) in

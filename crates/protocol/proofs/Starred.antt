@@ -7,20 +7,20 @@ use Rattle.protocol.specs.Paxos.{LogEntry, State, empty, majority, logge
 use Rattle.protocol.specs.Growth.{dataFor}
 
 -- pending 1 and 3, empty log
-abbrev two : State
-two = hold 3 0 (dataFor 3) (hold 1 0 (dataFor 1) empty)
+abbrev pendingTwo : State
+pendingTwo = hold 3 0 (dataFor 3) (hold 1 0 (dataFor 1) empty)
 
 -- the terms of a log
-abbrev terms : List LogEntry → List ℕ
-terms l = map (λ e. e .term) l
+abbrev logTerms : List LogEntry → List ℕ
+logTerms l = map (λ e. e .term) l
 
 pub record Starred : Type 0 where
   pub majority-2 : majority 2 ≡ 2
   pub majority-3 : majority 3 ≡ 2
   pub majority-32 : majority 32 ≡ 17
-  pub log : terms (commitUpTo 3 two .log) ≡ 1 ∷ 3 ∷ []
-  pub newly : newlyUpTo 3 (two .log) ≡ 0 ∷ 1 ∷ 2 ∷ 3 ∷ []
-  pub gap : detectGap 5 (commitUpTo 3 two) ≡ Gap.At (record { 0 = 4 })
+  pub log : logTerms (commitUpTo 3 pendingTwo .log) ≡ 1 ∷ 3 ∷ []
+  pub newly : newlyUpTo 3 (pendingTwo .log) ≡ 0 ∷ 1 ∷ 2 ∷ 3 ∷ []
+  pub gap : detectGap 5 (commitUpTo 3 pendingTwo) ≡ Gap.At (record { 0 = 4 })
 
 pub starred : Starred
 unfolding hold logged commitTerm commitBelow newlyBelow gapIn detectGap

@@ -22,10 +22,10 @@ use Rattle.phy.specs.declared.packet.Nack.{Nack}
 use Rattle.phy.specs.declared.packet.Piggyback.{Piggyback}
 use Rattle.config.specs.Limits.{maxTerms}
 use Rattle.protocol.specs.Layout.{pendingPlace, lastPlace}
-use Rattle.protocol.specs.Paxos.{LogEntry, Pending, State, logged, held, hold, holdNew, isSome, updated, logEntry, raise, after, commitTerm, commitBelow, newlyUpTo, termSet, dataIn, reply, recovery}
+use Rattle.protocol.specs.Paxos.{LogEntry, Pending, State, logged, held, hold, holdNew, isSome, updated, logEntry, raise, afterLast, commitTerm, commitBelow, newlyUpTo, termSet, dataIn, reply, recovery}
 use Rattle.protocol.specs.View.{dataOf, codeOf, lastOf, votesAt, dataAt, pendingSet, loggedSet, lastAt, entryAt, logOf, pendingOf, view, dataBelow, Kept, Wrote, Next}
 use Rattle.protocol.proofs.Places.{either, same-or}
-use Rattle.protocol.proofs.Logs.{or-left, find-by-term}
+use Rattle.protocol.proofs.Logs.{or-left-false, find-by-term}
 use Rattle.protocol.proofs.Words.{has-reach, reach-is}
 use Rattle.protocol.proofs.Commit.{commit-next, commit-past, newly-bit, newly-lt, below-other}
 use Rattle.protocol.proofs.Frame.{wrote-none, wrote-then, wrote-set, state-is}
@@ -42,7 +42,7 @@ next-if f n = record { wrote = n .wrote; kept = λ c q k. n .kept c (f c q) k; i
 pub pending-out : {c : ℕ} {b : List ℕ} {at : ℕ} (t : ℕ) → Kept c b at → 64 ≤ t → pendingOf b at t ≡ none
 pending-out {c} {b} {at} t k h = pending-none b at t (k .pending-below t (le-trans (k .room) h))
 
-pub after-last : (x : ℕ) → after (lastOf x) ≡ x
+pub after-last : (x : ℕ) → afterLast (lastOf x) ≡ x
 after-last zero = refl
 after-last (suc x) = omega arith
 
@@ -192,7 +192,7 @@ data-code (Data.Of u) h = rw (lt-ltb (u .0) 64 h)
 
 -- a term that is not held is in neither set
 pub free-logged : {c : ℕ} {b : List ℕ} {at : ℕ} (t : ℕ) → Kept c b at → held t (view b at) ≡ false → has (loggedSet b at) t ≡ false
-free-logged {c} {b} {at} t k e = or-left (has (loggedSet b at) t) (has (pendingSet b at) t) (sym (held-is k t) ∙ e)
+free-logged {c} {b} {at} t k e = or-left-false (has (loggedSet b at) t) (has (pendingSet b at) t) (sym (held-is k t) ∙ e)
 
 pub hold-next : (b : List ℕ) (at t v m p : ℕ) (d : Data) → Kept maxTerms b at → t < 64 → dataOf m ≡ d → held t (view b at) ≡ false →
     p ≡ bitOr (pendingSet b at) (2 ^ t) → Next (λ c. t < c) at b (heldAt b at t v m p) (hold t v d (view b at))
@@ -205,7 +205,7 @@ hold-next b at t v m p d k lt q e more =
       is =
           state-is (held-log 64 b at t v m p k absent lt more)
           (λ j. held-pending 64 b at t v m p k absent lt more j ∙
-          ap (λ (x : Data). updated t (some (record { votes = v; payload = x })) (pendingOf b at) j) q)
+          ap (λ (x : Data). updated t (some (record { votes = v; «data» = x })) (pendingOf b at) j) q)
           (held-last 64 b at t v m p k absent lt more);
     }
 
@@ -231,7 +231,7 @@ recovery-view b at u =
     (go (logged (u .0) (logOf b at)) (has (pendingSet b at) (u .0)))
   where
     one : Pending
-    one = record { votes = votesAt b at (u .0); payload = dataAt b at (u .0) }
+    one = record { votes = votesAt b at (u .0); «data» = dataAt b at (u .0) }
 
     go : (x y : Bool) → reply (u .0) (dataIn (cond x (some (dataAt b at (u .0))) none) (cond y (some one) none)) ≡
         cond (x || isSome (cond y (some one) none)) (Piggyback.Of u (dataAt b at (u .0))) Piggyback.None

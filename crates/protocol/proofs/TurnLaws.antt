@@ -28,7 +28,7 @@ use Rattle.protocol.proofs.Frame.{logged-word}
 use Rattle.protocol.proofs.Kept.{pending-none}
 use Rattle.protocol.proofs.Steps.{held-free}
 use Rattle.protocol.proofs.Growing.{extends-refl, rises-refl}
-use Rattle.protocol.proofs.Laws.{Keeps, AskData, AskBack, Any, OwnD, participant-keeps, votes-keeps, initiator-keeps, log-extends, last-rises, votes-stand, kept-apart, kept-own}
+use Rattle.protocol.proofs.Laws.{Keeps, AskData, AskBack, AnyData, OwnD, participant-keeps, votes-keeps, initiator-keeps, log-extends, last-rises, votes-stand, kept-apart, kept-own}
 
 -- ---- what a kept state says
 
@@ -71,18 +71,18 @@ log-full {c} {b} {at} k e t h = k .logged-is t ∙ go (has (loggedSet b at) t) r
 
 -- ---- a participant's turn
 
-any-data : (t : ℕ) (d : Data) → AskData Any t d
+any-data : (t : ℕ) (d : Data) → AskData AnyData t d
 any-data t Data.Empty = tt
 any-data t (Data.Of u) = tt
 
-any-back : (pb : Piggyback) → AskBack Any pb
+any-back : (pb : Piggyback) → AskBack AnyData pb
 any-back Piggyback.None = tt
 any-back (Piggyback.Of t d) = tt
 
 module _ (i : ℕ) (p : Packet) (s : State) where
-  kept : (Q : State → Type 0) → Keeps Any Q → Q s → Q (participantTurn i p s .state)
+  kept : (Q : State → Type 0) → Keeps AnyData Q → Q s → Q (participantTurn i p s .state)
   kept Q k q =
-      participant-keeps Any Q k i p s (any-data (p .«current_term» .0) (p .«proposal_data»)) (any-back (p .piggyback)) q
+      participant-keeps AnyData Q k i p s (any-data (p .«current_term» .0) (p .«proposal_data»)) (any-back (p .piggyback)) q
 
   pub participant-log : Extends (s .log) (participantTurn i p s .state .log)
   participant-log = kept (λ x. Extends (s .log) (x .log)) (log-extends (s .log)) (extends-refl (s .log))
@@ -99,8 +99,8 @@ module _ (i : ℕ) (p : Packet) (s : State) where
 -- ---- the initiator's turn
 
 module _ (i n c : ℕ) (b : Bool) (pb : Piggyback) (s : State) (free : held c s ≡ false) where
-  made : (Q : State → Type 0) → Keeps Any Q → Q s → Q (initiatorTurn i n c b pb s .state)
-  made Q k q = initiator-keeps Any Q k i n c b pb s free tt q
+  made : (Q : State → Type 0) → Keeps AnyData Q → Q s → Q (initiatorTurn i n c b pb s .state)
+  made Q k q = initiator-keeps AnyData Q k i n c b pb s free tt q
 
   pub initiator-log : Extends (s .log) (initiatorTurn i n c b pb s .state .log)
   initiator-log = made (λ x. Extends (s .log) (x .log)) (log-extends (s .log)) (extends-refl (s .log))
@@ -140,7 +140,7 @@ find-own : (t : ℕ) (l : List LogEntry) → ownLog l → ownFound t (find t l)
 unfolding find ownLog ownFound
 find-own t [] h = tt
 find-own t (e ∷ l) h =
-    same-or (λ (b : Bool). ownFound t (cond b (some (e .payload)) (find t l))) t (e .term)
+    same-or (λ (b : Bool). ownFound t (cond b (some (e .«data»)) (find t l))) t (e .term)
     (λ q. h .0 ∙ ap dataFor (sym q)) (λ q. find-own t l (h .1))
 
 reply-own : (t : ℕ) (o : Option Data) (q : Option Pending) → ownFound t o → ownPending t q → ownBack (reply t (dataIn o q))

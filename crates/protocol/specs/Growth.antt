@@ -30,7 +30,7 @@ Subset a b = (i : ℕ) → i < setBits → a / 2 ^ i % 2 ≤ b / 2 ^ i % 2
 -- t is pending in s with the data of p and with all its votes, or it is logged and pending no more
 abbrev pub StaysPending : ℕ → Pending → State → Type 0
 StaysPending t p s =
-    ((q : Pending) × (s .pending t ≡ some q) × Subset (p .votes) (q .votes) × (q .payload ≡ p .payload)) ⊎
+    ((q : Pending) × (s .pending t ≡ some q) × Subset (p .votes) (q .votes) × (q .«data» ≡ p .«data»)) ⊎
     ((logged t (s .log) ≡ true) × (s .pending t ≡ none))
 
 -- no log repeats a term, and no term is both logged and pending
@@ -46,11 +46,11 @@ dataFor t = Data.Of (record { 0 = t })
 
 abbrev pub ownPending : ℕ → Option Pending → Type 0
 ownPending t none = Unit {0}
-ownPending t (some p) = p .payload ≡ dataFor t
+ownPending t (some p) = p .«data» ≡ dataFor t
 
 unfoldable pub ownLog : List LogEntry → Type 0
 ownLog [] = Unit {0}
-ownLog (e ∷ l) = (e .payload ≡ dataFor (e .term)) × ownLog l
+ownLog (e ∷ l) = (e .«data» ≡ dataFor (e .term)) × ownLog l
 
 -- every logged or pending term carries its own data
 pub record Own (s : State) : Type 0 where

@@ -16,12 +16,12 @@ use Rattle.protocol.specs.declared.paxos.Gap.{Gap}
 -- A logged proposal.
 pub record LogEntry : Type 0 where
   pub term : ℕ
-  pub payload : Data
+  pub «data» : Data
 
 -- A pending proposal: the set of nodes that voted for it, and its data.
 pub record Pending : Type 0 where
   pub votes : ℕ
-  pub payload : Data
+  pub «data» : Data
 
 -- A node's state: the log in commit order, the pending terms, and the last accepted term or none.
 pub record State : Type 0 where
@@ -80,7 +80,7 @@ unfoldable pub hold : ℕ → ℕ → Data → State → State
 hold t v d s =
     record {
       log = s .log;
-      pending = updated t (some (record { votes = v; payload = d })) (s .pending);
+      pending = updated t (some (record { votes = v; «data» = d })) (s .pending);
       last = s .last;
     }
 
@@ -93,7 +93,7 @@ holdNew t v d s = cond (held t s) s (hold t v d s)
 -- the nodes of f vote too, where b says so
 abbrev pub voted : Bool → ℕ → Option Pending → Option Pending
 voted b f none = none
-voted true f (some p) = some (record { votes = union (p .votes) f; payload = p .payload })
+voted true f (some p) = some (record { votes = union (p .votes) f; «data» = p .«data» })
 voted false f (some p) = some p
 
 -- `merge_votes_up_to`: the votes f go to every pending term up to u
@@ -115,9 +115,9 @@ greatestQuorum (suc k) n s =
 -- ---- commits
 
 -- last accepted + 1, 0 if none
-abbrev pub after : LastAccepted → ℕ
-after LastAccepted.None = 0
-after (LastAccepted.At u) = u .0 + 1
+abbrev pub afterLast : LastAccepted → ℕ
+afterLast LastAccepted.None = 0
+afterLast (LastAccepted.At u) = u .0 + 1
 
 -- last accepted rises to t
 abbrev pub raise : ℕ → LastAccepted → LastAccepted
@@ -127,7 +127,7 @@ raise t (LastAccepted.At u) = LastAccepted.At (record { 0 = max (u .0) t })
 -- what enters the log for t: its data if pending, else nothing
 abbrev pub logEntry : ℕ → Option Pending → List LogEntry
 logEntry t none = []
-logEntry t (some p) = record { term = t; payload = p .payload } ∷ []
+logEntry t (some p) = record { term = t; «data» = p .«data» } ∷ []
 
 -- `commit_term`: a term that is not logged enters the log only if pending, yet last accepted rises to it anyway
 unfoldable pub commitTerm : ℕ → State → State
@@ -180,20 +180,20 @@ gapIn (suc k) t s = cond (held t s) (gapIn k (suc t) s) (Gap.At (record { 0 = t 
 
 -- `detect_gap`: least t from last accepted + 1 below c neither logged nor pending
 unfoldable pub detectGap : ℕ → State → Gap
-detectGap c s = gapIn (c - after (s .last)) (after (s .last)) s
+detectGap c s = gapIn (c - afterLast (s .last)) (afterLast (s .last)) s
 
 -- ---- recovery
 
 -- the data of t in a log, or none
 unfoldable pub find : ℕ → List LogEntry → Option Data
 find t [] = none
-find t (e ∷ l) = cond (eqb t (e .term)) (some (e .payload)) (find t l)
+find t (e ∷ l) = cond (eqb t (e .term)) (some (e .«data»)) (find t l)
 
 -- the data of t, in the log first
 abbrev pub dataIn : Option Data → Option Pending → Option Data
 dataIn (some d) p = some d
 dataIn none none = none
-dataIn none (some p) = some (p .payload)
+dataIn none (some p) = some (p .«data»)
 
 -- a piggyback of t, or none if its data is not there
 abbrev pub reply : ℕ → Option Data → Piggyback

@@ -23,9 +23,9 @@ pub record Initiated : Type 0 where
   pub newly : List ℕ
 
 -- the counter after the turn
-abbrev pub counted : Bool → ℕ → ℕ
-counted true c = c + 1
-counted false c = c
+abbrev pub counterAfter : Bool → ℕ → ℕ
+counterAfter true c = c + 1
+counterAfter false c = c
 
 -- the new proposal pending with the initiator's vote
 abbrev pub propose : Bool → ℕ → ℕ → State → State
@@ -84,7 +84,7 @@ initiatorTurn i n c b pb s =
 
 -- ---- a participant's turn, in the order of rule 5.10. i is the node, p the packet that it holds.
 
-pub record Taken : Type 0 where
+pub record Participated : Type 0 where
   pub state : State
   pub newly : List ℕ
   pub recovered : Piggyback
@@ -110,7 +110,7 @@ takeVotes i p s =
 
 -- The piggyback comes after the votes, with the own vote alone; between them the node looks whether it holds the NACKed
 -- term.
-unfoldable pub participantTurn : ℕ → Packet → State → Taken
+unfoldable pub participantTurn : ℕ → Packet → State → Participated
 participantTurn i p s =
     record {
       state = takePiggyback (vote i) (p .piggyback) (takeVotes i p s);

@@ -19,7 +19,7 @@ use Rattle.protocol.specs.declared.turns.Announced.{Announced}
 use Rattle.protocol.specs.declared.turns.Received.{Received}
 use Rattle.protocol.specs.Layout.{dataPlace, logPlace, pendingPlace, loggedPlace, lastPlace, nodeSize, noData}
 use Rattle.protocol.specs.Paxos.{LogEntry, Pending, State, logged, held, commitTo, newlyTo, termSet}
-use Rattle.protocol.specs.Turns.{Initiated, counted, initiatorTurn, participantTurn}
+use Rattle.protocol.specs.Turns.{Initiated, counterAfter, initiatorTurn, participantTurn}
 
 -- the data that a number stands for
 abbrev pub dataOf : ℕ → Data
@@ -55,14 +55,14 @@ abbrev pub lastAt : List ℕ → ℕ → ℕ
 lastAt b at = getD b (at + lastPlace) 0
 
 abbrev pub entryAt : List ℕ → ℕ → ℕ → LogEntry
-entryAt b at k = record { term = termAt b at k; payload = dataAt b at (termAt b at k) }
+entryAt b at k = record { term = termAt b at k; «data» = dataAt b at (termAt b at k) }
 
 -- as many terms as are in the set of logged ones
 unfoldable pub logOf : List ℕ → ℕ → List LogEntry
 logOf b at = tabulate (ones (loggedSet b at)) (entryAt b at)
 
 unfoldable pub pendingOf : List ℕ → ℕ → ℕ → Option Pending
-pendingOf b at t = cond (has (pendingSet b at) t) (some (record { votes = votesAt b at t; payload = dataAt b at t })) none
+pendingOf b at t = cond (has (pendingSet b at) t) (some (record { votes = votesAt b at t; «data» = dataAt b at t })) none
 
 -- the state that the numbers stand for
 abbrev pub view : List ℕ → ℕ → State
@@ -134,7 +134,7 @@ backBelow c (Piggyback.Of t d) = termBelow c (t .0) d
 pub record MayHold (b : List ℕ) (at t : ℕ) (d : Data) : Type 0 where
   pub kept : Kept maxTerms b at
   pub term : t < maxTerms
-  pub payload : dataBelow d
+  pub «data» : dataBelow d
   pub free : held t (view b at) ≡ false
 
 -- the terms of a packet are below the counter c
@@ -160,19 +160,19 @@ pub record Announces (at : ℕ) (f : State → Initiated) (b : List ℕ) (r : An
 -- node i of n may have the initiator's turn while the counter is c; p says whether a proposal is left
 pub record MayInitiate (i n c : ℕ) (p : Bool) (b : List ℕ) (at : ℕ) : Type 0 where
   pub kept : Kept c b at
-  pub few : counted p c ≤ maxTerms
+  pub few : counterAfter p c ≤ maxTerms
   pub node : i < setBits
   pub nodes : 2 ≤ n
 
--- The initiator's turn is that of the definitions, and the counter is then `counted p c`. The packet's terms are below it if that of the
+-- The initiator's turn is that of the definitions, and the counter is then `counterAfter p c`. The packet's terms are below it if that of the
 -- piggyback that was handed in is below c.
 pub record Initiates (at i n c : ℕ) (p : Bool) (pb : Piggyback) (b : List ℕ) (r : Announced) (b' : List ℕ) : Type 0 where
   pub wrote : Wrote at b b'
-  pub kept : Kept (counted p c) b' at
+  pub kept : Kept (counterAfter p c) b' at
   pub state : view b' at ≡ initiatorTurn i n c p pb (view b at) .state
   pub packet : r .packet ≡ initiatorTurn i n c p pb (view b at) .packet
   pub newly : r .newly ≡ termSet (initiatorTurn i n c p pb (view b at) .newly)
-  pub below : backBelow c pb → TermsBelow (counted p c) (r .packet)
+  pub below : backBelow c pb → TermsBelow (counterAfter p c) (r .packet)
 
 -- A participant's turn is that of the definitions, and its state is kept whatever the counter is that the packet's terms are below.
 pub record Takes (at i : ℕ) (p : Packet) (b : List ℕ) (r : Received) (b' : List ℕ) : Type 0 where

@@ -4,7 +4,6 @@ use crate::bits::joined;
 use crate::bits::up_to;
 use crate::state::DATA_PLACE;
 use crate::state::LAST_PLACE;
-use crate::state::LOG_PLACE;
 use crate::state::LOGGED_PLACE;
 use crate::state::PENDING_PLACE;
 use crate::state::after_last;
@@ -13,6 +12,7 @@ use crate::state::data_at;
 use crate::state::held_set;
 use crate::state::logged_set;
 use crate::state::pending_set;
+use crate::state::put_logged;
 use config::limits::MAX_TERMS;
 use network::units::NodeId;
 use network::units::Term;
@@ -144,7 +144,7 @@ fn commit_term(states: &mut [u64], at: usize, term: Term)
     if (pending >> t) % 2 == 1 {
         let logged = logged_set(states, at);
         let end = u64::count_ones(logged) as usize;
-        states[at + LOG_PLACE + end] = t;
+        put_logged(states, at, end, term);
         states[at + PENDING_PLACE] = pending - (1u64 << t);
         states[at + LOGGED_PLACE] = logged | (1u64 << t);
     }

@@ -11,9 +11,9 @@ ghost use mathlib.Core.Path.{_≡_};
 ghost use Prim.Native.Nat.{_+_, _≤_, _<_};
 ghost use lib.Bits.{bitOr};
 ghost use lib.Count.{ones};
-ghost use lib.ListN.{length};
+ghost use lib.ListN.{length, set};
 ghost use Rattle.config.specs.Limits.{maxNodes, maxTerms};
-ghost use Rattle.protocol.specs.Layout.{nodeSize, firstOf};
+ghost use Rattle.protocol.specs.Layout.{logPlace, nodeSize, firstOf};
 ghost use Rattle.protocol.specs.View.{codeOf, dataOf, dataAt, lastOf, lastAt, pendingSet, loggedSet, termAt};
 
 pub const DATA_PLACE: usize = MAX_TERMS;
@@ -84,6 +84,14 @@ pub fn logged_term(states: &[u64], at: usize, k: usize) -> Term
     ensures { λ r. ⌜ r .0 ≡ termAt (now (states .entry)) at k ⌝ }
 {
     Term(states[at + LOG_PLACE + k])
+}
+
+// Term k of the log becomes this one.
+pub fn put_logged(states: &mut [u64], at: usize, k: usize, term: Term)
+    requires { ⌜ (at + nodeSize ≤ length (now states)) × (k < maxTerms) ⌝ }
+    ensures { λ _. ⌜ now (states .exit) ≡ set (now (states .entry)) (at + logPlace + k) (term .0) ⌝ }
+{
+    states[at + LOG_PLACE + k] = term.0;
 }
 
 // The set of the logged terms.

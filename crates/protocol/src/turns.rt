@@ -21,7 +21,7 @@ ghost use mathlib.Core.Path.{_≡_};
 ghost use Prim.Native.Nat.{_-_, _<_, _≤_};
 ghost use Rattle.config.specs.Limits.{setBits, maxTerms};
 ghost use Rattle.protocol.specs.Paxos.{vote};
-ghost use Rattle.protocol.specs.Turns.{nack, counted, currentTerm, proposalData, propose, announce, takeData, takePiggyback};
+ghost use Rattle.protocol.specs.Turns.{nack, counterAfter, currentTerm, proposalData, propose, announce, takeData, takePiggyback};
 ghost use Rattle.protocol.specs.View.{Kept, Step, Reaches, TermsBelow, MayInitiate, proposalBelow, backBelow, Announces, Initiates, Takes};
 
 // What the initiator's turn gives beside its state: the packet, and the set of terms newly committed.
@@ -117,8 +117,8 @@ fn proposal_data(counter: u64, proposes: bool) -> Data
 
 // A new proposal, if one is made, becomes pending with the node's own vote.
 fn propose(states: &mut [u64], at: usize, node: NodeId, counter: u64, proposes: bool)
-    requires { ⌜ Kept counter (now states) at × (counted proposes counter ≤ maxTerms) × (node .0 < setBits) ⌝ }
-    ensures { λ _. ⌜ Reaches (counted proposes counter) at (propose proposes (node .0) counter) (now (states .entry)) (now (states .exit)) ⌝ }
+    requires { ⌜ Kept counter (now states) at × (counterAfter proposes counter ≤ maxTerms) × (node .0 < setBits) ⌝ }
+    ensures { λ _. ⌜ Reaches (counterAfter proposes counter) at (propose proposes (node .0) counter) (now (states .entry)) (now (states .exit)) ⌝ }
 {
     if proposes {
         let data = Data::Of(Term(counter));

@@ -15,8 +15,8 @@ product-lt k {a} {b} ha hb =
     lt-of-lt-of-le (lt-of-le-of-lt (mul-le-mul-left a (le-of-lt hb)) (mul-lt-mul-of-pos-right ha (pow-pos k))) (le-of-eq (sym (pow-add 2 k k)))
 
 -- the product of two numbers of two digits in base P, its upper digits apart
-columns : (P a₁ a₀ b₁ b₀ : ℕ) → (a₁ * P + a₀) * (b₁ * P + b₀) ≡ a₁ * b₁ * (P * P) + ((a₁ * b₀ + a₀ * b₁) * P + a₀ * b₀)
-columns P a₁ a₀ b₁ b₀ = simp sums
+digit-products : (P a₁ a₀ b₁ b₀ : ℕ) → (a₁ * P + a₀) * (b₁ * P + b₀) ≡ a₁ * b₁ * (P * P) + ((a₁ * b₀ + a₀ * b₁) * P + a₀ * b₀)
+digit-products P a₁ a₀ b₁ b₀ = simp sums
 
 carried : (P q r z : ℕ) → (q * P + r) * P + z ≡ q * (P * P) + (z + r * P)
 carried P q r z = simp sums
@@ -28,7 +28,7 @@ product-mod P a b =
     let z = a % P * (b % P) in
     sym
     (ap₂ (λ (u v : ℕ). u * v % (P * P)) (sym (div-add-mod' a P)) (sym (div-add-mod' b P))
-    ∙ ap (λ (u : ℕ). u % (P * P)) (columns P (a / P) (a % P) (b / P) (b % P))
+    ∙ ap (λ (u : ℕ). u % (P * P)) (digit-products P (a / P) (a % P) (b / P) (b % P))
     ∙ mul-add-mod-self-right (a / P * (b / P)) (P * P) (x * P + z)
     ∙ ap (λ (u : ℕ). (u * P + z) % (P * P)) (sym (div-add-mod' x P))
     ∙ ap (λ (u : ℕ). u % (P * P)) (carried P (x / P) (x % P) z)

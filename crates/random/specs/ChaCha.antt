@@ -7,6 +7,13 @@ use Rattle.random.specs.Table.{tabulate}
 use Rattle.random.specs.Word.{plus, rotateLeft}
 use Rattle.random.specs.declared.chacha.Quad.{Quad}
 
+-- the words of a key, and of a state or a block
+abbrev pub keySize : ℕ
+keySize = 8
+
+abbrev pub blockSize : ℕ
+blockSize = 16
+
 -- RFC 8439, 2.1: a += b; d ^= a; d <<<= 16;  c += d; b ^= c; b <<<= 12;  a += b; d ^= a; d <<<= 8;  c += d; b ^= c; b <<<= 7
 unfoldable pub quarter : Quad → Quad
 quarter q =
@@ -22,10 +29,10 @@ quarter q =
 
 -- four places of a state
 pub record Places (x y z w : ℕ) : Type 0 where
-  pub a : x < 16
-  pub b : y < 16
-  pub c : z < 16
-  pub d : w < 16
+  pub a : x < blockSize
+  pub b : y < blockSize
+  pub c : z < blockSize
+  pub d : w < blockSize
 
 -- RFC 8439, 2.2: QUARTERROUND(x, y, z, w) on the words of a state at these places
 unfoldable pub quarterAt : List ℕ → ℕ → ℕ → ℕ → ℕ → List ℕ
@@ -41,21 +48,21 @@ unfoldable pub diagonalRound : List ℕ → List ℕ
 diagonalRound s = quarterAt (quarterAt (quarterAt (quarterAt s 0 5 10 15) 1 6 11 12) 2 7 8 13) 3 4 9 14
 
 -- RFC 8439, 2.3: double rounds, RFC 8439's inner_block, that many times: ten there, four here
-unfoldable pub rounds : ℕ → List ℕ → List ℕ
-rounds zero s = s
-rounds (suc k) s = diagonalRound (columnRound (rounds k s))
+unfoldable pub doubleRounds : ℕ → List ℕ → List ℕ
+doubleRounds zero s = s
+doubleRounds (suc k) s = diagonalRound (columnRound (doubleRounds k s))
 
 -- RFC 8439, 2.3: the state starts as the four constants, the eight words of the key, and four words for counter and nonce
-unfoldable pub start : List ℕ → List ℕ → List ℕ
-start key last = (0x61707865 ∷ 0x3320646e ∷ 0x79622d32 ∷ 0x6b206574 ∷ []) ++ (key ++ last)
+unfoldable pub initialState : List ℕ → List ℕ → List ℕ
+initialState key last = (0x61707865 ∷ 0x3320646e ∷ 0x79622d32 ∷ 0x6b206574 ∷ []) ++ (key ++ last)
 
 -- RFC 8439, 2.3: the words of two states added
 unfoldable pub sums : List ℕ → List ℕ → List ℕ
-sums a b = tabulate 16 (λ (i : ℕ). plus (getD a i 0) (getD b i 0))
+sums a b = tabulate blockSize (λ (i : ℕ). plus (getD a i 0) (getD b i 0))
 
--- RFC 8439, 2.3: the block: the state after the rounds, added to the state that it started from
+-- RFC 8439, 2.3: the block: the state after k double rounds, added to the state that it started from
 unfoldable pub block : ℕ → List ℕ → List ℕ → List ℕ
-block doubleRounds key last = sums (rounds doubleRounds (start key last)) (start key last)
+block k key last = sums (doubleRounds k (initialState key last)) (initialState key last)
 
 -- words 12 and 13 are the block's number as a 64-bit counter, low word first, and words 14 and 15 are zero
 unfoldable pub counterWords : ℕ → List ℕ

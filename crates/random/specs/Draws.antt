@@ -4,14 +4,7 @@ use mathlib.Core.Path.{_≡_}
 use mathlib.Core.List.{List}
 use lib.ListN.{length, getD}
 use Rattle.random.specs.Seed.{keyOf}
-use Rattle.random.specs.ChaCha.{streamBlock}
-
--- the words of a key and of a block
-abbrev pub keySize : ℕ
-keySize = 8
-
-abbrev pub blockSize : ℕ
-blockSize = 16
+use Rattle.random.specs.ChaCha.{keySize, blockSize, streamBlock}
 
 -- word w of a seed's key stream: its blocks one after the other
 unfoldable pub streamWord : ℕ → ℕ → ℕ
@@ -20,6 +13,10 @@ streamWord seed w = getD (streamBlock (keyOf seed) (w / blockSize)) (w % blockSi
 -- draw k of a seed: two output words, low first
 unfoldable pub draw : ℕ → ℕ → ℕ
 draw seed k = streamWord seed (2 * k) + streamWord seed (2 * k + 1) * 2 ^ 32
+
+-- a draw is two words, so a block has half as many draws
+abbrev pub blockDraws : ℕ
+blockDraws = blockSize / 2
 
 -- The stream of a seed's draws has room for a key, and then for a block.
 abbrev pub streamSize : ℕ
@@ -31,10 +28,10 @@ pub record Keyed (seed : ℕ) (w : List ℕ) : Type 0 where
   pub words : (i : ℕ) → i < keySize → getD w i 0 ≡ getD (keyOf seed) i 0
 
 -- A stream holds block b of the seed, behind the key.
-abbrev pub Holds : ℕ → ℕ → List ℕ → Type 0
-Holds seed b w = (i : ℕ) → i < blockSize → getD w (keySize + i) 0 ≡ getD (streamBlock (keyOf seed) b) i 0
+abbrev pub HasBlock : ℕ → ℕ → List ℕ → Type 0
+HasBlock seed b w = (i : ℕ) → i < blockSize → getD w (keySize + i) 0 ≡ getD (streamBlock (keyOf seed) b) i 0
 
--- Draw n of a seed is next: the key is in hand, and, unless n is the first of the eight draws of its block, so is the block.
-pub record Before (seed n : ℕ) (w : List ℕ) : Type 0 where
+-- Draw n of a seed is next: the key is in hand, and, unless n is the first draw of its block, so is the block.
+pub record DrawNext (seed n : ℕ) (w : List ℕ) : Type 0 where
   pub key : Keyed seed w
-  pub hand : (n % 8 ≡ 0 → ⊥) → Holds seed (n / 8) w
+  pub hand : (n % blockDraws ≡ 0 → ⊥) → HasBlock seed (n / blockDraws) w

@@ -4,6 +4,7 @@ use mathlib.Core.List.{List}
 use lib.Bits.{bitXor}
 use Rattle.random.specs.Table.{tabulate}
 use Rattle.random.specs.Word.{rotateRight}
+use Rattle.random.specs.ChaCha.{keySize}
 
 -- s becomes s times 6364136223846793005 plus 11634580027462260723 modulo 2^64
 unfoldable pub nextState : ℕ → ℕ
@@ -20,4 +21,4 @@ stateAfter seed (suc k) = nextState (stateAfter seed k)
 
 -- eight times: the key words
 unfoldable pub keyOf : ℕ → List ℕ
-keyOf seed = tabulate 8 (λ (k : ℕ). keyWord (stateAfter seed (suc k)))
+keyOf seed = tabulate keySize (λ (k : ℕ). keyWord (stateAfter seed (suc k)))

@@ -5,6 +5,11 @@ ghost use Rattle.random.specs.ChaCha as ChaCha;
 ghost use Rattle.random.specs.TurnedRows.{turnedRows};
 use super::word::rotate_left;
 
+// The words of a key, and of a state or a block.
+pub const KEY_SIZE: usize = 8;
+
+pub const BLOCK_SIZE: usize = 16;
+
 // Four words of the state.
 pub struct Quad {
     pub a: u32,
@@ -34,7 +39,7 @@ pub fn quarter_round(q: Quad) -> Quad
 }
 
 // The quarter round on the words at four places of the state.
-fn quarter_of(s: [u32; 16], x: usize, y: usize, z: usize, w: usize) -> Quad
+fn quarter_of(s: [u32; BLOCK_SIZE], x: usize, y: usize, z: usize, w: usize) -> Quad
     requires { ⌜ ChaCha.Places x y z w ⌝ }
     ensures { λ r. ⌜ r ≡ ChaCha.quarter (record { a = getD s x 0; b = getD s y 0; c = getD s z 0; d = getD s w 0 }) ⌝ }
 {
@@ -48,7 +53,7 @@ fn quarter_of(s: [u32; 16], x: usize, y: usize, z: usize, w: usize) -> Quad
 
 // The quarter rounds on the four columns. They touch no word in common, so one instruction can do a
 // step of all four.
-fn column_round(s: [u32; 16]) -> [u32; 16]
+fn column_round(s: [u32; BLOCK_SIZE]) -> [u32; BLOCK_SIZE]
     ensures { λ r. ⌜ r ≡ ChaCha.columnRound s ⌝ }
 {
     let p = quarter_of(s, 0, 4, 8, 12);
@@ -77,7 +82,7 @@ fn column_round(s: [u32; 16]) -> [u32; 16]
 
 // Row r, of four words, turned left by r places: the diagonals stand as columns. Turned four times,
 // the state is as it was.
-fn turn_rows(s: [u32; 16]) -> [u32; 16]
+fn turn_rows(s: [u32; BLOCK_SIZE]) -> [u32; BLOCK_SIZE]
     ensures { λ r. ⌜ r ≡ turnedRows s ⌝ }
 {
     [
@@ -101,7 +106,7 @@ fn turn_rows(s: [u32; 16]) -> [u32; 16]
 }
 
 // The quarter rounds on the four diagonals, which are the columns of the turned rows.
-fn diagonal_round(s: [u32; 16]) -> [u32; 16]
+fn diagonal_round(s: [u32; BLOCK_SIZE]) -> [u32; BLOCK_SIZE]
     ensures { λ r. ⌜ r ≡ ChaCha.diagonalRound s ⌝ }
 {
     let t = column_round(turn_rows(s));
@@ -109,19 +114,19 @@ fn diagonal_round(s: [u32; 16]) -> [u32; 16]
 }
 
 // The state after that many double rounds, a column round and a diagonal round each.
-fn rounds(double_rounds: u32, s: [u32; 16]) -> [u32; 16]
-    ensures { λ r. ⌜ r ≡ ChaCha.rounds «double_rounds» s ⌝ }
+fn double_rounds(k: u32, s: [u32; BLOCK_SIZE]) -> [u32; BLOCK_SIZE]
+    ensures { λ r. ⌜ r ≡ ChaCha.doubleRounds k s ⌝ }
 {
     let mut t = s;
-    for i in 0..double_rounds {
+    for i in 0..k {
         t = diagonal_round(column_round(t));
     }
     t
 }
 
 // The state that a block starts from: the constants, the key, and the last four words.
-fn start(key: [u32; 8], last: [u32; 4]) -> [u32; 16]
-    ensures { λ r. ⌜ r ≡ ChaCha.start key last ⌝ }
+fn initial_state(key: [u32; KEY_SIZE], last: [u32; 4]) -> [u32; BLOCK_SIZE]
+    ensures { λ r. ⌜ r ≡ ChaCha.initialState key last ⌝ }
 {
     [
         0x61707865,
@@ -144,20 +149,20 @@ fn start(key: [u32; 8], last: [u32; 4]) -> [u32; 16]
 }
 
 // The words of a and b added, place by place.
-fn sums(a: [u32; 16], b: [u32; 16]) -> [u32; 16]
+fn sums(a: [u32; BLOCK_SIZE], b: [u32; BLOCK_SIZE]) -> [u32; BLOCK_SIZE]
     ensures { λ r. ⌜ r ≡ ChaCha.sums a b ⌝ }
 {
-    let mut t = [0u32; 16];
-    for i in 0..16 {
+    let mut t = [0u32; BLOCK_SIZE];
+    for i in 0..BLOCK_SIZE {
         t[i] = std::num::wrapping_add_u32(a[i], b[i]);
     }
     t
 }
 
-// One block of sixteen words. The last four words of its state are RFC 8439's counter and nonce.
-pub fn block(double_rounds: u32, key: [u32; 8], last: [u32; 4]) -> [u32; 16]
-    ensures { λ r. ⌜ r ≡ ChaCha.block «double_rounds» key last ⌝ }
+// One block of sixteen words, after k double rounds. The last four words of its state are RFC 8439's counter and nonce.
+pub fn block(k: u32, key: [u32; KEY_SIZE], last: [u32; 4]) -> [u32; BLOCK_SIZE]
+    ensures { λ r. ⌜ r ≡ ChaCha.block k key last ⌝ }
 {
-    let s = start(key, last);
-    sums(rounds(double_rounds, s), s)
+    let s = initial_state(key, last);
+    sums(double_rounds(k, s), s)
 }

@@ -3,23 +3,24 @@ ghost use mathlib.Core.Path.{_≡_};
 ghost use Prim.Native.Nat.{ℕ, _+_, _*_, _^_, _≤_};
 ghost use lib.ListN.{length};
 ghost use Rattle.random.specs.ChaCha as ChaCha;
-ghost use Rattle.random.specs.Draws.{streamSize, Keyed, Before, Holds, draw};
+ghost use Rattle.random.specs.Draws.{streamSize, Keyed, DrawNext, HasBlock, draw};
 ghost use Rattle.random.specs.Table.{tabulate, Placed};
+use super::chacha::BLOCK_SIZE;
+use super::chacha::KEY_SIZE;
 use super::chacha::block;
 use super::seed::key_of;
 
 // Four double rounds are eight rounds.
 const DOUBLE_ROUNDS: u32 = 4;
 
+// A draw is two words, so a block has half as many draws.
+const BLOCK_DRAWS: usize = BLOCK_SIZE / 2;
+
 // The stream of a seed's draws: the key, then the block in hand.
-const KEY_SIZE: usize = 8;
-
-const BLOCK_SIZE: usize = 16;
-
 pub const STREAM_SIZE: usize = KEY_SIZE + BLOCK_SIZE;
 
 // The stream's block of that number: a 64-bit counter, low word first, and two zero words.
-fn stream_block(key: [u32; 8], counter: u64) -> [u32; 16]
+fn stream_block(key: [u32; KEY_SIZE], counter: u64) -> [u32; BLOCK_SIZE]
     ensures { λ r. ⌜ r ≡ ChaCha.streamBlock key counter ⌝ }
 {
     let low = (counter % 0x1_0000_0000) as u32;
@@ -46,7 +47,7 @@ fn place_words(words: &[u32], stream: &mut [u32; STREAM_SIZE], at: usize)
 
 // The stream of a seed, with draw 0 next. No block is computed before it is needed.
 pub fn begin_draws(seed: u64) -> [u32; STREAM_SIZE]
-    ensures { λ r. ⌜ Before seed 0 r ⌝ }
+    ensures { λ r. ⌜ DrawNext seed 0 r ⌝ }
 {
     let key = key_of(seed);
     let mut stream = [0u32; STREAM_SIZE];
@@ -56,7 +57,7 @@ pub fn begin_draws(seed: u64) -> [u32; STREAM_SIZE]
 
 // The block of that number, of the stream of the key in hand, becomes the block in hand.
 fn fill(stream: &mut [u32; STREAM_SIZE], counter: u64)
-    ensures { λ _. ⌜ ((seed : ℕ) → Keyed seed (now (stream .entry)) → Keyed seed (now (stream .exit)) × Holds seed counter (now (stream .exit))) ⌝ }
+    ensures { λ _. ⌜ ((seed : ℕ) → Keyed seed (now (stream .entry)) → Keyed seed (now (stream .exit)) × HasBlock seed counter (now (stream .exit))) ⌝ }
 {
     let key = [
         stream[0],
@@ -74,11 +75,11 @@ fn fill(stream: &mut [u32; STREAM_SIZE], counter: u64)
 
 // Draw k, where it is next. A block is computed when the first of its eight draws is taken.
 pub fn next_draw(stream: &mut [u32; STREAM_SIZE], k: u64) -> u64
-    ensures { λ r. ⌜ ((seed : ℕ) → Before seed k (now (stream .entry)) → (r ≡ draw seed k) × Before seed (k + 1) (now (stream .exit))) ⌝ }
+    ensures { λ r. ⌜ ((seed : ℕ) → DrawNext seed k (now (stream .entry)) → (r ≡ draw seed k) × DrawNext seed (k + 1) (now (stream .exit))) ⌝ }
 {
-    let used = (k % 8) as usize;
+    let used = (k % (BLOCK_DRAWS as u64)) as usize;
     if used == 0 {
-        fill(stream, k / 8);
+        fill(stream, k / (BLOCK_DRAWS as u64));
     }
     pair(stream[KEY_SIZE + 2 * used], stream[KEY_SIZE + 2 * used + 1])
 }
@@ -88,11 +89,11 @@ pub fn draws(seed: u64, out: &mut [u64])
     ensures { λ _. ⌜ now (out .exit) ≡ tabulate (length (now (out .entry))) (draw seed) ⌝ }
 {
     let key = key_of(seed);
-    let mut words = [0u32; 16];
+    let mut words = [0u32; BLOCK_SIZE];
     for i in 0..out.len() {
-        let used = i % 8;
+        let used = i % BLOCK_DRAWS;
         if used == 0 {
-            words = stream_block(key, (i / 8) as u64);
+            words = stream_block(key, (i / BLOCK_DRAWS) as u64);
         }
         out[i] = pair(words[2 * used], words[2 * used + 1]);
     }

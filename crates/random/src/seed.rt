@@ -1,6 +1,7 @@
 // The seed's expansion to the eight key words of ChaCha.
 ghost use mathlib.Core.Path.{_≡_};
 ghost use Rattle.random.specs.Seed.{nextState, keyWord, keyOf};
+use super::chacha::KEY_SIZE;
 use super::word::rotate_right;
 use super::word::wrapping_mul_u64;
 
@@ -23,12 +24,12 @@ fn key_word(s: u64) -> u32
 }
 
 // The eight key words of a seed.
-pub fn key_of(seed: u64) -> [u32; 8]
+pub fn key_of(seed: u64) -> [u32; KEY_SIZE]
     ensures { λ r. ⌜ r ≡ keyOf seed ⌝ }
 {
-    let mut key = [0u32; 8];
+    let mut key = [0u32; KEY_SIZE];
     let mut s = seed;
-    for i in 0..8 {
+    for i in 0..KEY_SIZE {
         s = next_state(s);
         key[i] = key_word(s);
     }

@@ -9,7 +9,7 @@ use config::limits::MAX_NODES;
 use config::limits::RECORDS_SIZE;
 use libc::STDIN_FILENO;
 use libc::STDOUT_FILENO;
-use line::asked::config_of;
+use line::configured::config_of;
 use line::numeral::Number;
 use line::numeral::decimal;
 use line::numeral::numeral;

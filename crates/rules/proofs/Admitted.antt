@@ -22,7 +22,7 @@ use Rattle.rules.specs.Questions.{configQuestions, bufferQuestions, runQ
 use Rattle.rules.specs.Accepted.{MeasuredGraph, Accepted}
 use Rattle.rules.specs.Run.{Given, run}
 use Rattle.rules.specs.Entries.{summaryOf, ranWith, givenAs, givenOf, outcomeOf, runOfRows, runOfTopology}
-use Rattle.rules.specs.ExactRounds.{Asked, ofRows, ofTopology, givenFor, outcomeFor}
+use Rattle.rules.specs.ExactRounds.{RowsOrTopology, ofRows, ofTopology, givenFor, outcomeFor}
 use Rattle.rules.proofs.FirstNo.{both-none, row-facts, config-facts, buffer-facts}
 
 -- the buffers are long enough
@@ -39,10 +39,10 @@ accepts {graph} {n} {d} c graph-is e =
       two = graph-is .two;
       few = graph-is .few;
       measured = graph-is .measured;
-      short = omega (arith, graph-is .measured, diameter-lt graph n (graph-is .checked) (omega (arith, graph-is .two)), graph-is .few);
+      diameter-low = omega (arith, graph-is .measured, diameter-lt graph n (graph-is .checked) (omega (arith, graph-is .two)), graph-is .few);
       repeats-low = q .repeats .0;
       repeats-high = q .repeats .1;
-      slots = q .slots;
+      round-slots = q .slots;
       proposals = q .proposals;
       interval = q .interval;
     }
@@ -68,13 +68,13 @@ ran-so none g logs records snapshots s e = (refl, cc)
 ran-so (some k) g logs records snapshots s e = absurd (let z : _≡_ {A = ℕ} 0 1 = cc in omega arith)
 
 -- An accepted run: every question is answered "yes", and the outcome and the summary are those of the run.
-pub record Admitted (q : Asked) (c : Config) (logs records snapshots : List ℕ) (s : Summary) : Type 0 where
+pub record Admitted (q : RowsOrTopology) (c : Config) (logs records snapshots : List ℕ) (s : Summary) : Type 0 where
   pub accepted : Accepted (givenFor q c)
   pub roomy : Roomy logs records
   pub ran : outcomeFor q c logs records snapshots ≡ ranWith (givenFor q c) logs records snapshots
   pub summary : summaryOf (givenFor q c) (run (givenFor q c)) ≡ s
 
-pub admitted : (q : Asked) (c : Config) (logs records snapshots : List ℕ) (s : Summary) → outcomeFor q c logs records snapshots .answer ≡ Ran s → Admitted q c logs records snapshots s
+pub admitted : (q : RowsOrTopology) (c : Config) (logs records snapshots : List ℕ) (s : Summary) → outcomeFor q c logs records snapshots .answer ≡ Ran s → Admitted q c logs records snapshots s
 unfolding runOfRows runOfTopology rowsRefusal topologyRefusal
 admitted (ofRows rows n) c logs records snapshots s e =
     let g : Given = givenOf rows n c in

@@ -21,7 +21,7 @@ use Rattle.rules.specs.Run.{runFor, Given, Past, Running, begin, setupOf
 use Rattle.rules.specs.Entries.{summaryOf}
 use Rattle.rules.specs.ExactRounds.{givenFor}
 use Rattle.rules.specs.Bounds.{longest, Bounds, AllBounded}
-use Rattle.rules.proofs.Rounds.{limit-few, covered-few}
+use Rattle.rules.proofs.Rounds.{longest-few, covered-few}
 use Rattle.rules.proofs.Ends.{Through, along-rounds, tallied-next}
 use Rattle.rules.proofs.Admitted.{admitted}
 use Rattle.rules.proofs.Tallies.{Low, Few, few-prepared, few-processed, low-packet}
@@ -103,11 +103,11 @@ bounds-of g a =
     let s : Summary = summaryOf g (run g) in
     let w = within-run g (a .interval) in
     let now = w .holds in
-    let limit : longest g ≤ 4096 = limit-few (g .roundSlots) (g .diameter) (g .repeats) (a .slots) (a .short) (a .repeats-high) in
+    let most : longest g ≤ 4096 = longest-few (g .roundSlots) (g .diameter) (g .repeats) (a .round-slots) (a .diameter-low) (a .repeats-high) in
     let rounds : s .rounds ≤ mostRounds (g .proposals) = omega (arith, now .rounds, w .few) in
     let slots : s .slots ≤ s .rounds * longest g = subst (λ (k : ℕ). s .slots ≤ k * longest g) (sym (now .rounds)) (now .slots) in
     let slots-most : s .slots ≤ 1066 * 4096
-    = omega (arith, slots, mul-le-mul {n₁ = s .rounds} {m₁ = longest g} {n₂ = 1066} {m₂ = 4096} (omega (arith, rounds, a .proposals)) limit) in
+    = omega (arith, slots, mul-le-mul {n₁ = s .rounds} {m₁ = longest g} {n₂ = 1066} {m₂ = 4096} (omega (arith, rounds, a .proposals)) most) in
     let each-slot : s .listen + s .flood + s .sleep ≡ g .nodes * s .slots
     = omega (
       arith,
@@ -129,7 +129,7 @@ bounds-of g a =
       nodes = refl;
       rounds = rounds;
       slots = slots;
-      round-slots = limit;
+      round-slots = most;
       slots-most = slots-most;
       each-slot = each-slot;
       successes = successes;

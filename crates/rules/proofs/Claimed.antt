@@ -10,7 +10,8 @@ use borrow.Author.Tests.{eqb-true, eqb-false, lt-ltb, le-ltb, ltb-true, ltb-fals
 use lib.Dec.{leb, ltb, eqb}
 use Rattle.phy.specs.declared.packet.LastAccepted.{LastAccepted}
 use Rattle.protocol.specs.declared.paxos.Gap.{Gap}
-use Rattle.protocol.specs.Paxos.{LogEntry, Pending, State, union, logged, isSome, held, updated, hold, voted, mergeVotesUpTo, majority, size, quorum, greatestQuorum, logEntry, raise, after, commitTerm, commitBelow, commitTo, gapIn, detectGap}
+use Rattle.protocol.specs.Paxos.{LogEntry, Pending, State, union, logged, isSome, held, updated, hold, voted, mergeVotesUpTo, majority, size, quorum, greatestQuorum, logEntry, raise, afterLast, commitTerm, commitBelow, commitTo, gapIn, detectGap}
+use Rattle.protocol.specs.View.{lastOf}
 use Rattle.protocol.specs.Growth.{dataFor}
 use Rattle.protocol.proofs.Places.{either, same-or}
 use Rattle.protocol.proofs.Logs.{logged-append}
@@ -18,27 +19,22 @@ use Rattle.protocol.proofs.Frame.{state-is}
 
 -- the log of the terms below c, each with its data
 abbrev pub entryOf : ℕ → LogEntry
-entryOf t = record { term = t; payload = dataFor t }
+entryOf t = record { term = t; «data» = dataFor t }
 
 unfoldable pub entries : ℕ → List LogEntry
 entries zero = []
 entries (suc c) = entries c ++ (entryOf c ∷ [])
 
--- the last accepted term when those below c are
-abbrev pub lastOf : ℕ → LastAccepted
-lastOf zero = LastAccepted.None
-lastOf (suc c) = LastAccepted.At (record { 0 = c })
-
 -- term t with the votes v
 abbrev pub waiting : ℕ → ℕ → Option Pending
-waiting t v = some (record { votes = v; payload = dataFor t })
+waiting t v = some (record { votes = v; «data» = dataFor t })
 
 unfoldable pub waits : ℕ → ℕ → (ℕ → ℕ) → ℕ → Option Pending
 waits c m v t = cond (leb c t && ltb t m) (waiting t (v t)) none
 
 -- the terms below c are logged, those from c to below m are pending, term t with the votes v t
-abbrev pub node : ℕ → ℕ → (ℕ → ℕ) → State
-node c m v = record { log = entries c; pending = waits c m v; last = lastOf c }
+abbrev pub stateWith : ℕ → ℕ → (ℕ → ℕ) → State
+stateWith c m v = record { log = entries c; pending = waits c m v; last = lastOf c }
 
 -- ---- what is pending
 
@@ -67,7 +63,7 @@ module _ (c m : ℕ) (v : ℕ → ℕ) (t : ℕ) where
       (either (ltb t c))
 
 -- only the votes of pending terms count
-pub node-votes : (c m : ℕ) (v w : ℕ → ℕ) → ((t : ℕ) → c ≤ t → t < m → v t ≡ w t) → node c m v ≡ node c m w
+pub node-votes : (c m : ℕ) (v w : ℕ → ℕ) → ((t : ℕ) → c ≤ t → t < m → v t ≡ w t) → stateWith c m v ≡ stateWith c m w
 node-votes c m v w h =
     state-is refl
     (λ t. place c m v t (λ (o : Option Pending). o ≡ waits c m w t) (λ l. sym (waits-low c m w t l)) (λ a b. ap (waiting t) (h t a b) ∙ sym (waits-in c m w t a b)) (λ l. sym (waits-high c m w t l)))
@@ -91,27 +87,27 @@ logged-entries t (suc c) =
 pub is-logged : (t c : ℕ) → t < c → logged t (entries c) ≡ true
 is-logged t c h = logged-entries t c ∙ lt-ltb t c h
 
-pub not-logged : (t c : ℕ) → c ≤ t → logged t (entries c) ≡ false
-not-logged t c h = logged-entries t c ∙ le-ltb t c h
+pub entry-free : (t c : ℕ) → c ≤ t → logged t (entries c) ≡ false
+entry-free t c h = logged-entries t c ∙ le-ltb t c h
 
 -- ---- what is held
 
 module _ (c m : ℕ) (v : ℕ → ℕ) where
   -- it is not held before
-  pub not-held : c ≤ m → held m (node c m v) ≡ false
-  not-held h = ap₂ _||_ (not-logged m c h) (ap isSome (waits-high c m v m (omega arith)))
+  pub not-held : c ≤ m → held m (stateWith c m v) ≡ false
+  not-held h = ap₂ _||_ (entry-free m c h) (ap isSome (waits-high c m v m (omega arith)))
 
   -- a pending term is held
-  pub is-held : (t : ℕ) → c ≤ t → t < m → held t (node c m v) ≡ true
-  is-held t h l = ap₂ _||_ (not-logged t c h) (ap isSome (waits-in c m v t h l))
+  pub is-held : (t : ℕ) → c ≤ t → t < m → held t (stateWith c m v) ≡ true
+  is-held t h l = ap₂ _||_ (entry-free t c h) (ap isSome (waits-in c m v t h l))
 
 -- ---- commits
 
 -- the next term is committed
-pub commit-one : (c m : ℕ) (v : ℕ → ℕ) → c < m → commitTerm c (node c m v) ≡ node (suc c) m v
+pub commit-one : (c m : ℕ) (v : ℕ → ℕ) → c < m → commitTerm c (stateWith c m v) ≡ stateWith (suc c) m v
 unfolding commitTerm entries
 commit-one c m v h =
-    ap (λ (b : Bool). cond b (node c m v) (record { log = entries c ++ logEntry c (waits c m v c); pending = updated c none (waits c m v); last = raise c (lastOf c) })) (not-logged c c (omega arith))
+    ap (λ (b : Bool). cond b (stateWith c m v) (record { log = entries c ++ logEntry c (waits c m v c); pending = updated c none (waits c m v); last = raise c (lastOf c) })) (entry-free c c (omega arith))
     ∙ state-is (ap (λ (o : Option Pending). entries c ++ logEntry c o) (waits-in c m v c (omega arith) h)) left (raised c)
   where
     left : (t : ℕ) → updated c none (waits c m v) t ≡ waits (suc c) m v t
@@ -126,46 +122,46 @@ commit-one c m v h =
     raised zero = refl
     raised (suc c) = ap (λ (x : ℕ). LastAccepted.At (record { 0 = x })) (omega arith)
 
-commit-old : (j c m : ℕ) (v : ℕ → ℕ) → j < c → commitTerm j (node c m v) ≡ node c m v
+commit-old : (j c m : ℕ) (v : ℕ → ℕ) → j < c → commitTerm j (stateWith c m v) ≡ stateWith c m v
 unfolding commitTerm
 commit-old j c m v l = rw (is-logged j c l)
 
 -- a commit of the terms below j
-pub commit-below : (j c m : ℕ) (v : ℕ → ℕ) → j ≤ m → commitBelow j (node c m v) ≡ node (max c j) m v
+pub commit-below : (j c m : ℕ) (v : ℕ → ℕ) → j ≤ m → commitBelow j (stateWith c m v) ≡ stateWith (max c j) m v
 unfolding commitBelow
-commit-below zero c m v h = ap (λ (x : ℕ). node x m v) (omega arith)
+commit-below zero c m v h = ap (λ (x : ℕ). stateWith x m v) (omega arith)
 commit-below (suc j) c m v h =
     ap (commitTerm j) (commit-below j c m v (omega arith)) ∙ ⊎-elim (λ e. old (ltb-true j c e)) (λ e. next (ltb-false j c e)) (either (ltb j c))
   where
-    old : j < c → commitTerm j (node (max c j) m v) ≡ node (max c (suc j)) m v
+    old : j < c → commitTerm j (stateWith (max c j) m v) ≡ stateWith (max c (suc j)) m v
     old l =
         let a : max c j ≡ c = omega arith in
         let b : max c (suc j) ≡ c = omega arith in
         rw (a, b) (commit-old j c m v l)
 
-    next : c ≤ j → commitTerm j (node (max c j) m v) ≡ node (max c (suc j)) m v
+    next : c ≤ j → commitTerm j (stateWith (max c j) m v) ≡ stateWith (max c (suc j)) m v
     next l =
         let a : max c j ≡ j = omega arith in
         let b : max c (suc j) ≡ suc j = omega arith in
         rw (a, b) (commit-one j m v (omega arith))
 
-pub commit-last : (d c m : ℕ) (v : ℕ → ℕ) → c ≤ d → d ≤ m → commitTo (lastOf d) (node c m v) ≡ node d m v
+pub commit-last : (d c m : ℕ) (v : ℕ → ℕ) → c ≤ d → d ≤ m → commitTo (lastOf d) (stateWith c m v) ≡ stateWith d m v
 unfolding commitTo
-commit-last zero c m v l h = ap (λ (x : ℕ). node x m v) (omega arith)
-commit-last (suc d) c m v l h = commit-below (suc d) c m v h ∙ ap (λ (x : ℕ). node x m v) (omega arith)
+commit-last zero c m v l h = ap (λ (x : ℕ). stateWith x m v) (omega arith)
+commit-last (suc d) c m v l h = commit-below (suc d) c m v h ∙ ap (λ (x : ℕ). stateWith x m v) (omega arith)
 
 -- ---- no gap
 
-no-gap-in : (k t m c : ℕ) (v : ℕ → ℕ) → c ≤ t → t + k ≤ m → gapIn k t (node c m v) ≡ Gap.None
+no-gap-in : (k t m c : ℕ) (v : ℕ → ℕ) → c ≤ t → t + k ≤ m → gapIn k t (stateWith c m v) ≡ Gap.None
 unfolding gapIn
 no-gap-in zero t m c v l h = refl
-no-gap-in (suc k) t m c v l h = ap (λ (b : Bool). cond b (gapIn k (suc t) (node c m v)) (Gap.At (record { 0 = t }))) (is-held c m v t l (omega arith)) ∙ no-gap-in k (suc t) m c v (omega arith) (omega arith)
+no-gap-in (suc k) t m c v l h = ap (λ (b : Bool). cond b (gapIn k (suc t) (stateWith c m v)) (Gap.At (record { 0 = t }))) (is-held c m v t l (omega arith)) ∙ no-gap-in k (suc t) m c v (omega arith) (omega arith)
 
-pub no-gap : (c m : ℕ) (v : ℕ → ℕ) → c ≤ m → detectGap m (node c m v) ≡ Gap.None
+pub no-gap : (c m : ℕ) (v : ℕ → ℕ) → c ≤ m → detectGap m (stateWith c m v) ≡ Gap.None
 unfolding detectGap
 no-gap c m v h = go c h
   where
-    go : (d : ℕ) → d ≤ m → gapIn (m - after (lastOf d)) (after (lastOf d)) (node d m v) ≡ Gap.None
+    go : (d : ℕ) → d ≤ m → gapIn (m - afterLast (lastOf d)) (afterLast (lastOf d)) (stateWith d m v) ≡ Gap.None
     go zero l = no-gap-in (m - 0) 0 m 0 v (omega arith) (omega arith)
     go (suc d) l = no-gap-in (m - (d + 1)) (d + 1) m (suc d) v (omega arith) (omega arith)
 
@@ -173,9 +169,9 @@ no-gap c m v h = go c h
 
 module _ (c m : ℕ) (v : ℕ → ℕ) where
   -- term m becomes pending
-  pub hold-next : (w : ℕ → ℕ) (x : ℕ) → c ≤ m → ((t : ℕ) → t < m → v t ≡ w t) → x ≡ w m → hold m x (dataFor m) (node c m v) ≡ node c (suc m) w
+  pub hold-claimed : (w : ℕ → ℕ) (x : ℕ) → c ≤ m → ((t : ℕ) → t < m → v t ≡ w t) → x ≡ w m → hold m x (dataFor m) (stateWith c m v) ≡ stateWith c (suc m) w
   unfolding hold
-  hold-next w x l same own = state-is refl there refl
+  hold-claimed w x l same own = state-is refl there refl
     where
       there : (t : ℕ) → updated m (waiting m x) (waits c m v) t ≡ waits c (suc m) w t
       there t =
@@ -187,7 +183,7 @@ module _ (c m : ℕ) (v : ℕ → ℕ) where
           (λ a b. ap (waiting t) (same t b) ∙ sym (waits-in c (suc m) w t a (omega arith))) (λ a. sym (waits-high c (suc m) w t (omega (arith, ne)))))
 
   -- votes for every pending term
-  pub merge-all : (u f : ℕ) → m ≤ suc u → mergeVotesUpTo u f (node c m v) ≡ node c m (λ t. union (v t) f)
+  pub merge-all : (u f : ℕ) → m ≤ suc u → mergeVotesUpTo u f (stateWith c m v) ≡ stateWith c m (λ t. union (v t) f)
   unfolding mergeVotesUpTo
   merge-all u f h = state-is refl there refl
     where
@@ -199,28 +195,28 @@ module _ (c m : ℕ) (v : ℕ → ℕ) where
   -- ---- quorums
 
   -- the greatest pending quorum below k when only term t has one
-  pub quorum-none : (n k : ℕ) → ((t : ℕ) → c ≤ t → t < m → size (v t) < majority n) → greatestQuorum k n (node c m v) ≡ LastAccepted.None
+  pub quorum-none : (n k : ℕ) → ((t : ℕ) → c ≤ t → t < m → size (v t) < majority n) → greatestQuorum k n (stateWith c m v) ≡ LastAccepted.None
   unfolding greatestQuorum
   quorum-none n zero few = refl
   quorum-none n (suc k) few =
-      place c m v k (λ (o : Option Pending). cond (quorum n o) (LastAccepted.At (record { 0 = k })) (greatestQuorum k n (node c m v)) ≡ LastAccepted.None)
+      place c m v k (λ (o : Option Pending). cond (quorum n o) (LastAccepted.At (record { 0 = k })) (greatestQuorum k n (stateWith c m v)) ≡ LastAccepted.None)
       (λ l. quorum-none n k few) (λ a b. rw (lt-leb (majority n) (size (v k)) (few k a b)) (quorum-none n k few)) (λ l. quorum-none n k few)
 
   pub quorum-one : (n k q : ℕ) → c ≤ q → q < m → q < k → majority n ≤ size (v q) → ((t : ℕ) → q < t → t < m → size (v t) < majority n)
-      → greatestQuorum k n (node c m v) ≡ LastAccepted.At (record { 0 = q })
+      → greatestQuorum k n (stateWith c m v) ≡ LastAccepted.At (record { 0 = q })
   unfolding greatestQuorum
   quorum-one n zero q a b l many few = absurd (omega arith)
   quorum-one n (suc k) q a b l many few =
       ⊎-elim (λ e. is (eqb-true q k e)) (λ e. on (quorum-one n k q a b) (eqb-false q k e)) (either (eqb q k))
     where
       P : Option Pending → Type 0
-      P o = cond (quorum n o) (LastAccepted.At (record { 0 = k })) (greatestQuorum k n (node c m v)) ≡ LastAccepted.At (record { 0 = q })
+      P o = cond (quorum n o) (LastAccepted.At (record { 0 = k })) (greatestQuorum k n (stateWith c m v)) ≡ LastAccepted.At (record { 0 = q })
 
       is : q ≡ k → P (waits c m v k)
-      is e = subst (λ (x : ℕ). cond (quorum n (waits c m v x)) (LastAccepted.At (record { 0 = x })) (greatestQuorum x n (node c m v)) ≡ LastAccepted.At (record { 0 = q })) e
+      is e = subst (λ (x : ℕ). cond (quorum n (waits c m v x)) (LastAccepted.At (record { 0 = x })) (greatestQuorum x n (stateWith c m v)) ≡ LastAccepted.At (record { 0 = q })) e
           (rw (waits-in c m v q a b, le-leb (majority n) (size (v q)) many))
 
-      on : (q < k → majority n ≤ size (v q) → ((t : ℕ) → q < t → t < m → size (v t) < majority n) → greatestQuorum k n (node c m v) ≡ LastAccepted.At (record { 0 = q })) → (q ≡ k → ⊥) → P (waits c m v k)
+      on : (q < k → majority n ≤ size (v q) → ((t : ℕ) → q < t → t < m → size (v t) < majority n) → greatestQuorum k n (stateWith c m v) ≡ LastAccepted.At (record { 0 = q })) → (q ≡ k → ⊥) → P (waits c m v k)
       on ih ne =
           let less : q < k = omega (arith, ne) in
           let done = ih less many few in

@@ -16,7 +16,7 @@ use Rattle.network.proofs.Sets.{two}
 use Rattle.phy.specs.declared.node.Payload.{Payload}
 use Rattle.phy.specs.declared.packet.Packet.{Packet}
 use Rattle.phy.specs.Node.{new}
-use Rattle.phy.specs.Packets.{samePacket, holds}
+use Rattle.phy.specs.Packets.{samePacket, payloadIs}
 use Rattle.phy.specs.Slot.{Setup, at}
 use Rattle.phy.specs.Round.{lengthLimit}
 use Rattle.phy.proofs.Packets.{same-packet-equal}
@@ -26,7 +26,7 @@ use Rattle.pipeline.specs.Round.{initiatorOf, prepareRound}
 use Rattle.rules.specs.Run.{Given, Past, Running, begin, setupOf, preparedIn, floodedIn, runRound, runFor}
 use Rattle.rules.specs.Coverage.{heldFrom, HeldPackets, CoveredTookPart}
 use Rattle.rules.proofs.Ends.{along-rounds}
-use Rattle.rules.proofs.Votes.{apart}
+use Rattle.rules.proofs.Votes.{initiators-differ}
 use Rattle.rules.proofs.ExactRun.{elem-snoc}
 
 -- between two rounds of one initiator every other node starts one
@@ -36,7 +36,7 @@ between n a k j l e h ne = go (ltb j (a % n)) refl
     -- at least n rounds apart
     far : n ≤ k - a
     far =
-        ⊎-elim (λ p. absurd (apart n a (k - a) (omega arith) (ltb-true (k - a) n p) (e ∙ ap (λ (x : ℕ). x % n) whole)))
+        ⊎-elim (λ p. absurd (initiators-differ n a (k - a) (omega arith) (ltb-true (k - a) n p) (e ∙ ap (λ (x : ℕ). x % n) whole)))
         (ltb-false (k - a) n) (two (ltb (k - a) n))
       where
         whole : k ≡ a + (k - a)
@@ -65,7 +65,7 @@ sent-by g k r = refl
 
 -- so a packet that another node has kept is not that of round k
 kept-other : (n k j : ℕ) (packet : Packet) (old : Payload) → packet .sender .0 ≡ initiatorOf n k → j < n → (j ≡ initiatorOf n k → ⊥) → heldFrom n k j old
-    → holds packet old ≡ false
+    → payloadIs packet old ≡ false
 kept-other n k j packet Payload.None from h ne held = refl
 kept-other n k j packet (Payload.Of q) from h ne held =
     ⊎-elim

@@ -97,7 +97,7 @@ module _ (old : List ℕ) (states : List State) (n P : ℕ) (long : 2080 ≤ len
 
 -- ---- records
 
-length-numbers : (rs : List Record) → length (recordNumbers rs) ≡ 3 * length rs
+pub length-numbers : (rs : List Record) → length (recordNumbers rs) ≡ 3 * length rs
 unfolding recordNumbers
 length-numbers [] = refl
 length-numbers (r ∷ rs) = omega (arith, length-numbers rs)

@@ -22,9 +22,9 @@ use Rattle.config.specs.Limits.{mostRounds}
 use Rattle.rules.specs.Run.{runFor, Given, Running, Ended, begin, runRound, complete, endAfter, roundsFrom, run}
 use Rattle.rules.specs.ExactRounds.{firstSlot, roundsOf, Suited}
 use Rattle.rules.proofs.Ends.{from-next, from-end, along-rounds, tallied-next}
-use Rattle.rules.proofs.Claimed.{entries, is-logged, not-logged}
+use Rattle.rules.proofs.Claimed.{entries, is-logged, entry-free}
 use Rattle.rules.proofs.ExactTurns.{claimed}
-use Rattle.rules.proofs.ExactRound.{recordAt, sharedAt}
+use Rattle.rules.proofs.ExactRound.{exactRecord, sharedAt}
 use Rattle.rules.proofs.ExactRun.{After, after-none, below-limit, after-next}
 
 -- ---- successes grow by no more than attempts
@@ -63,7 +63,7 @@ unfolding complete
 complete-not n P k h l =
     all-false n (λ (j : ℕ). all P (λ (t : ℕ). logged t (stateOf (tabulate n (claimed n P k)) j .log))) 0 h
     (all-false P (λ (t : ℕ). logged t (stateOf (tabulate n (claimed n P k)) 0 .log)) (P - 1) (omega arith)
-    (ap (logged (P - 1)) (log-at n P k 0 h) ∙ not-logged (P - 1) (k - n / 2) (omega arith)))
+    (ap (logged (P - 1)) (log-at n P k 0 h) ∙ entry-free (P - 1) (k - n / 2) (omega arith)))
 
 module _ {g : Given} (a : Accepted g) (w : Suited g) (k : ℕ) (r : Running) (now : After g (suc k) r) where
   states-are : r .shared .states ≡ tabulate (g .nodes) (claimed (g .nodes) (g .proposals) (suc k))
@@ -72,7 +72,7 @@ module _ {g : Given} (a : Accepted g) (w : Suited g) (k : ℕ) (r : Running) (no
 
   records-are : length (r .shared .records) ≡ suc k - g .nodes / 2
   unfolding sharedAt
-  records-are = ap (λ (s : Shared). length (s .records)) (now .shared) ∙ length-tabulate (suc k - g .nodes / 2) (recordAt (firstSlot g) (g .nodes))
+  records-are = ap (λ (s : Shared). length (s .records)) (now .shared) ∙ length-tabulate (suc k - g .nodes / 2) (exactRecord (firstSlot g) (g .nodes))
 
   pub ends : suc k ≡ roundsOf g → endAfter g k r ≡ 1
   unfolding endAfter

@@ -15,12 +15,13 @@ use Rattle.random.specs.Table.{tabulate}
 use Rattle.random.proofs.Tables.{length-tabulate, getD-tabulate, is-tabulate, tabulate-cong, tabulate-snoc}
 use Rattle.phy.specs.declared.packet.Piggyback.{Piggyback}
 use Rattle.protocol.specs.Paxos.{LogEntry, State, empty, logged, newlyBelow, newlyTo}
-use Rattle.protocol.specs.Turns.{Initiated, Taken, counted, initiatorTurn, participantTurn}
+use Rattle.protocol.specs.View.{lastOf}
+use Rattle.protocol.specs.Turns.{Initiated, Participated, counterAfter, initiatorTurn, participantTurn}
 use Rattle.protocol.proofs.Places.{either, getD-set}
 use Rattle.protocol.proofs.Commit.{newly-skip}
 use Rattle.pipeline.specs.Round.{oneNack, Record, Shared, Prepared, stateOf, latest, onePiggyback, recorded, recordAll, prepareRound, takeTurn, turns, processRound}
-use Rattle.rules.proofs.Claimed.{entries, lastOf, is-logged, not-logged}
-use Rattle.rules.proofs.ExactTurns.{Fits, claimed, announced, proposesAt, sent, initiated, taken, taken-own}
+use Rattle.rules.proofs.Claimed.{entries, is-logged, entry-free}
+use Rattle.rules.proofs.ExactTurns.{Fits, claimed, announced, proposesAt, sent, initiated, participated, participated-own}
 
 -- ---- lists by their places
 
@@ -35,25 +36,25 @@ set-tabulate n f i x d h =
 -- ---- records
 
 -- term t's: from the first slot of round t to that of round t + n / 2
-abbrev pub recordAt : (ℕ → ℕ) → ℕ → ℕ → Record
-recordAt S n t = record { id = t; start = S t; end = S (t + n / 2) }
+abbrev pub exactRecord : (ℕ → ℕ) → ℕ → ℕ → Record
+exactRecord S n t = record { id = t; start = S t; end = S (t + n / 2) }
 
-recorded-append : (t : ℕ) (a b : List Record) → recorded t (a ++ b) ≡ (recorded t a || recorded t b)
+recorded-either : (t : ℕ) (a b : List Record) → recorded t (a ++ b) ≡ (recorded t a || recorded t b)
 unfolding recorded
-recorded-append t [] b = refl
-recorded-append t (x ∷ a) b = ap (λ (y : Bool). eqb t (x .id) || y) (recorded-append t a b) ∙ assoc (eqb t (x .id)) (recorded t a) (recorded t b)
+recorded-either t [] b = refl
+recorded-either t (x ∷ a) b = ap (λ (y : Bool). eqb t (x .id) || y) (recorded-either t a b) ∙ assoc (eqb t (x .id)) (recorded t a) (recorded t b)
   where
     assoc : (x y z : Bool) → (x || (y || z)) ≡ ((x || y) || z)
     assoc true y z = refl
     assoc false y z = refl
 
 -- the terms below c are recorded
-recorded-below : (S : ℕ → ℕ) (n c t : ℕ) → recorded t (tabulate c (recordAt S n)) ≡ ltb t c
+recorded-below : (S : ℕ → ℕ) (n c t : ℕ) → recorded t (tabulate c (exactRecord S n)) ≡ ltb t c
 unfolding tabulate recorded
 recorded-below S n zero t = sym (le-ltb t 0 (omega arith))
 recorded-below S n (suc c) t =
-    ap (recorded t) (tabulate-next c (recordAt S n))
-    ∙ recorded-append t (tabulate c (recordAt S n)) (recordAt S n c ∷ [])
+    ap (recorded t) (tabulate-next c (exactRecord S n))
+    ∙ recorded-either t (tabulate c (exactRecord S n)) (exactRecord S n c ∷ [])
     ∙ ap (λ (b : Bool). b || (eqb t c || false)) (recorded-below S n c t)
     ∙ go (either (ltb t c)) (either (eqb t c))
   where
@@ -69,29 +70,29 @@ record-append starts end (t ∷ a) b r = record-append starts end a b (cond (rec
 
 module _ (S : ℕ → ℕ) (n : ℕ) (starts : List ℕ) (end : ℕ) where
   -- what is recorded already
-  record-again : (j c : ℕ) (l : List LogEntry) → j ≤ c → recordAll starts end (newlyBelow j l) (tabulate c (recordAt S n)) ≡ tabulate c (recordAt S n)
+  record-again : (j c : ℕ) (l : List LogEntry) → j ≤ c → recordAll starts end (newlyBelow j l) (tabulate c (exactRecord S n)) ≡ tabulate c (exactRecord S n)
   unfolding newlyBelow recordAll
   record-again zero c l h = refl
   record-again (suc j) c l h =
-      record-append starts end (newlyBelow j l) (cond (logged j l) [] (j ∷ [])) (tabulate c (recordAt S n))
+      record-append starts end (newlyBelow j l) (cond (logged j l) [] (j ∷ [])) (tabulate c (exactRecord S n))
       ∙ ap (recordAll starts end (cond (logged j l) [] (j ∷ []))) (record-again j c l (omega arith))
       ∙ go (logged j l)
     where
-      go : (b : Bool) → recordAll starts end (cond b [] (j ∷ [])) (tabulate c (recordAt S n)) ≡ tabulate c (recordAt S n)
+      go : (b : Bool) → recordAll starts end (cond b [] (j ∷ [])) (tabulate c (exactRecord S n)) ≡ tabulate c (exactRecord S n)
       go true = refl
       go false = rw (recorded-below S n c j, lt-ltb j c h)
 
-  pub record-old : (c : ℕ) (l : List LogEntry) → recordAll starts end (newlyTo (lastOf c) l) (tabulate c (recordAt S n)) ≡ tabulate c (recordAt S n)
+  pub record-old : (c : ℕ) (l : List LogEntry) → recordAll starts end (newlyTo (lastOf c) l) (tabulate c (exactRecord S n)) ≡ tabulate c (exactRecord S n)
   unfolding newlyTo recordAll
   record-old zero l = refl
   record-old (suc c) l = record-again (suc c) (suc c) l (omega arith)
 
   -- the next term
-  pub record-new : (c : ℕ) → getD starts c 0 ≡ S c → end ≡ S (c + n / 2)
-      → recordAll starts end (newlyTo (lastOf (suc c)) (entries c)) (tabulate c (recordAt S n)) ≡ tabulate (suc c) (recordAt S n)
+  pub record-claimed : (c : ℕ) → getD starts c 0 ≡ S c → end ≡ S (c + n / 2)
+      → recordAll starts end (newlyTo (lastOf (suc c)) (entries c)) (tabulate c (exactRecord S n)) ≡ tabulate (suc c) (exactRecord S n)
   unfolding newlyTo newlyBelow recordAll
-  record-new c first last =
-      rw (newly-skip c (entries c) (λ t h. is-logged t c h), not-logged c c (omega arith), recorded-below S n c c, le-ltb c c (omega arith), first, last) (sym (tabulate-next c (recordAt S n)))
+  record-claimed c first last =
+      rw (newly-skip c (entries c) (λ t h. is-logged t c h), entry-free c c (omega arith), recorded-below S n c c, le-ltb c c (omega arith), first, last) (sym (tabulate-next c (exactRecord S n)))
 
 -- ---- what is claimed
 
@@ -102,20 +103,20 @@ sharedAt S n P k =
       states = tabulate n (claimed n P k);
       counter = min k P;
       starts = tabulate (min k P) S;
-      records = tabulate (k - n / 2) (recordAt S n);
+      records = tabulate (k - n / 2) (exactRecord S n);
       piggyback = Piggyback.None;
       nacks = 0;
       piggybacks = 0;
     }
 
 -- in round k, with these states of the nodes
-abbrev pub within : (ℕ → ℕ) → ℕ → ℕ → ℕ → (ℕ → State) → Shared
-within S n P k states =
+abbrev pub inRound : (ℕ → ℕ) → ℕ → ℕ → ℕ → (ℕ → State) → Shared
+inRound S n P k states =
     record {
       states = tabulate n states;
       counter = min (suc k) P;
       starts = tabulate (min (suc k) P) S;
-      records = tabulate (suc k - n / 2) (recordAt S n);
+      records = tabulate (suc k - n / 2) (exactRecord S n);
       piggyback = Piggyback.None;
       nacks = 0;
       piggybacks = 0;
@@ -135,15 +136,15 @@ module _ (S : ℕ → ℕ) {n P k : ℕ} (f : Fits n P k) where
 
   -- ---- prepare
 
-  counter-next : counted (proposesAt P k) (min k P) ≡ min (suc k) P
+  counter-next : counterAfter (proposesAt P k) (min k P) ≡ min (suc k) P
   counter-next = ⊎-elim (λ e. new (ltb-true k P e)) (λ e. old (ltb-false k P e)) (either (ltb k P))
     where
-      new : k < P → counted (proposesAt P k) (min k P) ≡ min (suc k) P
+      new : k < P → counterAfter (proposesAt P k) (min k P) ≡ min (suc k) P
       new h =
           let a : min k P ≡ k = omega arith in
           rw (a, lt-ltb k P h) (omega arith)
 
-      old : P ≤ k → counted (proposesAt P k) (min k P) ≡ min (suc k) P
+      old : P ≤ k → counterAfter (proposesAt P k) (min k P) ≡ min (suc k) P
       old h =
           let a : min k P ≡ P = omega arith in
           rw (a, le-ltb P P (omega arith)) (omega arith)
@@ -163,25 +164,25 @@ module _ (S : ℕ → ℕ) {n P k : ℕ} (f : Fits n P k) where
           let b : min (suc k) P ≡ P = omega arith in
           rw (a, b, le-ltb P P (omega arith)) (append-nil (tabulate P S))
 
-  records-next : recordAll (tabulate (min (suc k) P) S) (S k) (newlyTo (lastOf (suc k - n / 2)) (entries (k - n / 2))) (tabulate (k - n / 2) (recordAt S n))
-      ≡ tabulate (suc k - n / 2) (recordAt S n)
+  records-next : recordAll (tabulate (min (suc k) P) S) (S k) (newlyTo (lastOf (suc k - n / 2)) (entries (k - n / 2))) (tabulate (k - n / 2) (exactRecord S n))
+      ≡ tabulate (suc k - n / 2) (exactRecord S n)
   records-next = ⊎-elim (λ e. early (ltb-true k (n / 2) e)) (λ e. late (ltb-false k (n / 2) e)) (either (ltb k (n / 2)))
     where
       starts : List ℕ
       starts = tabulate (min (suc k) P) S
 
-      early : k < n / 2 → recordAll starts (S k) (newlyTo (lastOf (suc k - n / 2)) (entries (k - n / 2))) (tabulate (k - n / 2) (recordAt S n)) ≡ tabulate (suc k - n / 2) (recordAt S n)
+      early : k < n / 2 → recordAll starts (S k) (newlyTo (lastOf (suc k - n / 2)) (entries (k - n / 2))) (tabulate (k - n / 2) (exactRecord S n)) ≡ tabulate (suc k - n / 2) (exactRecord S n)
       early h =
           let a : suc k - n / 2 ≡ k - n / 2 = omega arith in
           rw a (record-old S n starts (S k) (k - n / 2) (entries (k - n / 2)))
 
-      late : n / 2 ≤ k → recordAll starts (S k) (newlyTo (lastOf (suc k - n / 2)) (entries (k - n / 2))) (tabulate (k - n / 2) (recordAt S n)) ≡ tabulate (suc k - n / 2) (recordAt S n)
+      late : n / 2 ≤ k → recordAll starts (S k) (newlyTo (lastOf (suc k - n / 2)) (entries (k - n / 2))) (tabulate (k - n / 2) (exactRecord S n)) ≡ tabulate (suc k - n / 2) (exactRecord S n)
       late h =
           let a : suc k - n / 2 ≡ suc (k - n / 2) = omega arith in
           let b : k ≡ k - n / 2 + n / 2 = omega arith in
-          rw a (record-new S n starts (S k) (k - n / 2) (getD-tabulate (min (suc k) P) S (k - n / 2) 0 (omega arith)) (ap S b))
+          rw a (record-claimed S n starts (S k) (k - n / 2) (getD-tabulate (min (suc k) P) S (k - n / 2) 0 (omega arith)) (ap S b))
 
-  pub prepared : prepareRound n P (k % n) (S k) (sharedAt S n P k) ≡ record { shared = within S n P k (begunAt n P k); packet = sent n P k }
+  pub prepared : prepareRound n P (k % n) (S k) (sharedAt S n P k) ≡ record { shared = inRound S n P k (begunAt n P k); packet = sent n P k }
   unfolding prepareRound sharedAt sent
   prepared =
       ap after (ap (initiatorTurn (k % n) n (min k P) (proposesAt P k) Piggyback.None) (getD-tabulate n (claimed n P k) (k % n) empty initiator-lt) ∙ initiated f)
@@ -190,7 +191,7 @@ module _ (S : ℕ → ℕ) {n P k : ℕ} (f : Fits n P k) where
           states = set-tabulate n (claimed n P k) (k % n) (announced n P k) empty initiator-lt d;
           counter = counter-next d;
           starts = starts-next d;
-          records = (ap (λ (l : List ℕ). recordAll l (S k) (newlyTo (lastOf (suc k - n / 2)) (entries (k - n / 2))) (tabulate (k - n / 2) (recordAt S n))) starts-next ∙ records-next) d;
+          records = (ap (λ (l : List ℕ). recordAll l (S k) (newlyTo (lastOf (suc k - n / 2)) (entries (k - n / 2))) (tabulate (k - n / 2) (exactRecord S n))) starts-next ∙ records-next) d;
           piggyback = Piggyback.None;
           nacks = 0;
           piggybacks = 0;
@@ -204,9 +205,9 @@ module _ (S : ℕ → ℕ) {n P k : ℕ} (f : Fits n P k) where
           record {
             shared = record {
               states = set (tabulate n (claimed n P k)) (k % n) (turn .state);
-              counter = counted (proposesAt P k) (min k P);
+              counter = counterAfter (proposesAt P k) (min k P);
               starts = starts;
-              records = recordAll starts (S k) (turn .newly) (tabulate (k - n / 2) (recordAt S n));
+              records = recordAll starts (S k) (turn .newly) (tabulate (k - n / 2) (exactRecord S n));
               piggyback = Piggyback.None;
               nacks = 0 + oneNack (turn .packet .«nack_term»);
               piggybacks = 0;
@@ -225,12 +226,12 @@ module _ (S : ℕ → ℕ) {n P k : ℕ} (f : Fits n P k) where
       turnWith s e = participantTurn m (sent n P k) s ≡ record { state = claimed n P (suc k) m; newly = newlyTo (lastOf (suc k - n / 2)) (entries e); recovered = Piggyback.None }
 
       own : eqb m (k % n) ≡ true → (e : ℕ) × turnWith (begunAt n P k m) e
-      own q = (suc k - n / 2, rw (q, eqb-true m (k % n) q) (taken-own f))
+      own q = (suc k - n / 2, rw (q, eqb-true m (k % n) q) (participated-own f))
 
       other : eqb m (k % n) ≡ false → (e : ℕ) × turnWith (begunAt n P k m) e
-      other q = (k - n / 2, rw q (taken f m h))
+      other q = (k - n / 2, rw q (participated f m h))
 
-  took-turn : (slot m : ℕ) → m < n → takeTurn (sent n P k) slot m (within S n P k (turnedAt n P k m)) ≡ within S n P k (turnedAt n P k (suc m))
+  took-turn : (slot m : ℕ) → m < n → takeTurn (sent n P k) slot m (inRound S n P k (turnedAt n P k m)) ≡ inRound S n P k (turnedAt n P k (suc m))
   unfolding takeTurn
   took-turn slot m h =
       let e = turn-at m h in
@@ -245,13 +246,13 @@ module _ (S : ℕ → ℕ) {n P k : ℕ} (f : Fits n P k) where
         piggybacks = 0;
       })
     where
-      after : Taken → Shared
+      after : Participated → Shared
       after turn =
           record {
             states = set (tabulate n (turnedAt n P k m)) m (turn .state);
             counter = min (suc k) P;
             starts = tabulate (min (suc k) P) S;
-            records = recordAll (tabulate (min (suc k) P) S) slot (turn .newly) (tabulate (suc k - n / 2) (recordAt S n));
+            records = recordAll (tabulate (min (suc k) P) S) slot (turn .newly) (tabulate (suc k - n / 2) (exactRecord S n));
             piggyback = latest (turn .recovered) Piggyback.None;
             nacks = 0;
             piggybacks = 0 + onePiggyback (turn .recovered);
@@ -275,7 +276,7 @@ module _ (S : ℕ → ℕ) {n P k : ℕ} (f : Fits n P k) where
           high q l = rw (q, l, le-ltb j (suc m) (omega (arith, ltb-false j m l, eqb-false j m q)))
 
   all-turns : (slot part m : ℕ) → ((j : ℕ) → j < n → has part j ≡ true) → m ≤ n
-      → turns (sent n P k) slot part m (within S n P k (begunAt n P k)) ≡ within S n P k (turnedAt n P k m)
+      → turns (sent n P k) slot part m (inRound S n P k (begunAt n P k)) ≡ inRound S n P k (turnedAt n P k m)
   unfolding turns
   all-turns slot part zero all h = ap (λ (l : List State). withStates l) (tabulate-cong n (begunAt n P k) (turnedAt n P k 0) (λ j l. sym (rw (le-ltb j 0 (omega arith)))))
     where
@@ -285,7 +286,7 @@ module _ (S : ℕ → ℕ) {n P k : ℕ} (f : Fits n P k) where
             states = l;
             counter = min (suc k) P;
             starts = tabulate (min (suc k) P) S;
-            records = tabulate (suc k - n / 2) (recordAt S n);
+            records = tabulate (suc k - n / 2) (exactRecord S n);
             piggyback = Piggyback.None;
             nacks = 0;
             piggybacks = 0;
@@ -293,7 +294,7 @@ module _ (S : ℕ → ℕ) {n P k : ℕ} (f : Fits n P k) where
   all-turns slot part (suc m) all h =
       rw (turns, all m h) (ap (takeTurn (sent n P k) slot m) (all-turns slot part m all (omega arith)) ∙ took-turn slot m h)
 
-  pub processed : (slot part : ℕ) → ((j : ℕ) → j < n → has part j ≡ true) → processRound n (sent n P k) slot part (within S n P k (begunAt n P k)) ≡ sharedAt S n P (suc k)
+  pub processed : (slot part : ℕ) → ((j : ℕ) → j < n → has part j ≡ true) → processRound n (sent n P k) slot part (inRound S n P k (begunAt n P k)) ≡ sharedAt S n P (suc k)
   unfolding processRound sharedAt
   processed slot part all =
       all-turns slot part n all (omega arith)
@@ -301,7 +302,7 @@ module _ (S : ℕ → ℕ) {n P k : ℕ} (f : Fits n P k) where
         states = tabulate-cong n (turnedAt n P k n) (claimed n P (suc k)) (λ j l. rw (lt-ltb j n l)) d;
         counter = min (suc k) P;
         starts = tabulate (min (suc k) P) S;
-        records = tabulate (suc k - n / 2) (recordAt S n);
+        records = tabulate (suc k - n / 2) (exactRecord S n);
         piggyback = Piggyback.None;
         nacks = 0;
         piggybacks = 0;

@@ -16,7 +16,7 @@ use Rattle.rules.specs.Entries.{Outcome, terms, recordNumbers, summaryOf
 use Rattle.rules.specs.ExactRounds.{slotsIn, firstSlot, roundsOf, ExactRecord, ExactRounds, givenFor, Suited, Demand3}
 use Rattle.rules.proofs.Claimed.{entries}
 use Rattle.rules.proofs.ExactTurns.{claimed}
-use Rattle.rules.proofs.ExactRound.{recordAt, sharedAt}
+use Rattle.rules.proofs.ExactRound.{exactRecord, sharedAt}
 use Rattle.rules.proofs.Sums.{sum-split}
 use Rattle.rules.proofs.Admitted.{Roomy, Admitted, admitted}
 use Rattle.rules.proofs.ExactEnd.{Stopped, stops}
@@ -25,9 +25,9 @@ use Rattle.rules.proofs.ExactBuffers.{terms-entries, count-at, term-at,
 -- ---- any run
 
 module _ (g : Given) (logs records snapshots : List ℕ) (a : Accepted g) (w : Suited g) (b : Roomy logs records)
-    (received : run g .running .standing .attempts ≡ run g .running .standing .successes) where
+    (equal : run g .running .standing .attempts ≡ run g .running .standing .successes) where
   stopped : Stopped g (run g)
-  stopped = stops g a w received
+  stopped = stops g a w equal
 
   logs-are : (j : ℕ) → j < g .nodes → terms (stateOf (run g .running .shared .states) j .log) ≡ tabulate (g .proposals) (λ (t : ℕ). t)
   unfolding sharedAt claimed
@@ -38,16 +38,16 @@ module _ (g : Given) (logs records snapshots : List ℕ) (a : Accepted g) (w : S
       ∙ ap (λ (x : ℕ). terms (entries x)) c
       ∙ terms-entries (g .proposals)
 
-  records-are : run g .running .shared .records ≡ tabulate (g .proposals) (recordAt (firstSlot g) (g .nodes))
+  records-are : run g .running .shared .records ≡ tabulate (g .proposals) (exactRecord (firstSlot g) (g .nodes))
   unfolding sharedAt
   records-are =
       let c : roundsOf g - g .nodes / 2 ≡ g .proposals = omega arith in
-      ap (λ (s : Shared). s .records) (stopped .after .shared) ∙ ap (λ (x : ℕ). tabulate x (recordAt (firstSlot g) (g .nodes))) c
+      ap (λ (s : Shared). s .records) (stopped .after .shared) ∙ ap (λ (x : ℕ). tabulate x (exactRecord (firstSlot g) (g .nodes))) c
 
   record-is : (t : ℕ) → t < g .proposals → ExactRecord g (ranWith g logs records snapshots .records) t
   unfolding ranWith
   record-is t h =
-      let r = stored-at records (g .proposals) (recordAt (firstSlot g) (g .nodes)) t (omega (arith, a .proposals, b .for-records)) h in
+      let r = stored-at records (g .proposals) (exactRecord (firstSlot g) (g .nodes)) t (omega (arith, a .proposals, b .for-records)) h in
       subst (λ (rs : List Record). ExactRecord g (sets records 0 (recordNumbers rs)) t) (sym records-are)
       (record { id = r .0; start = r .1; end = r .2; latency = omega (arith, r .1, r .2, sum-split t (g .nodes / 2) (slotsIn g)) })
 
@@ -57,18 +57,18 @@ module _ (g : Given) (logs records snapshots : List ℕ) (a : Accepted g) (w : S
       record {
         ended = stopped .ended;
         rounds = stopped .after .count;
-        all = stopped .after .count;
+        played = stopped .after .count;
         each = stopped .after .past;
         slots = stopped .after .slot;
         listen = stopped .after .listen;
         flood = stopped .after .flood;
         sleep = stopped .after .sleep;
-        proposals = ap length records-are ∙ length-tabulate (g .proposals) (recordAt (firstSlot g) (g .nodes));
+        proposals = ap length records-are ∙ length-tabulate (g .proposals) (exactRecord (firstSlot g) (g .nodes));
         recorded = records-are;
         record-at = record-is;
         log-of = λ j h.
             record {
-              held = logs-are j h;
+              log = logs-are j h;
               count = count-at logs (run g .running .shared .states) (g .nodes) (g .proposals) (b .for-logs) (a .few) (a .proposals) logs-are (g .nodes) j (omega arith) h;
               term-at = λ t l. term-at logs (run g .running .shared .states) (g .nodes) (g .proposals) (b .for-logs) (a .few) (a .proposals) logs-are (g .nodes) j t (omega arith) h l;
             };
@@ -82,4 +82,4 @@ exact-rounds q c logs records snapshots s p =
     let a : Admitted q c logs records snapshots s = admitted q c logs records snapshots s (p .accepted) in
     subst (λ (o : Outcome). ExactRounds g (run g) s (o .logs) (o .records)) (sym (a .ran))
     (subst (λ (x : Summary). ExactRounds g (run g) x (ranWith g logs records snapshots .logs) (ranWith g logs records snapshots .records)) (a .summary)
-    (exact-given g logs records snapshots (a .accepted) (p .suited) (a .roomy) (subst (λ (x : Summary). x .attempts ≡ x .successes) (sym (a .summary)) (p .received))))
+    (exact-given g logs records snapshots (a .accepted) (p .suited) (a .roomy) (subst (λ (x : Summary). x .attempts ≡ x .successes) (sym (a .summary)) (p .equal))))

@@ -28,8 +28,8 @@ use Rattle.rules.specs.Accepted.{Accepted}
 use Rattle.rules.specs.Run.{Given, Past, Running, begin, setupOf, runRound}
 use Rattle.rules.specs.ExactRounds.{sum, distanceIn, farthest, slotsIn, firstSlot, roundsOf, ExactRound, AbsentOrAtLeast, Suited}
 use Rattle.rules.proofs.Claimed.{entries, waits-high}
-use Rattle.rules.proofs.ExactTurns.{Fits, votesAt, claimed, sent}
-use Rattle.rules.proofs.ExactRound.{sharedAt, within, begunAt, prepared, processed}
+use Rattle.rules.proofs.ExactTurns.{Fits, votesAfter, claimed, sent}
+use Rattle.rules.proofs.ExactRound.{sharedAt, inRound, begunAt, prepared, processed}
 use Rattle.rules.proofs.Sums.{sum-most, sum-grown, sum-new}
 
 -- after k rounds
@@ -56,7 +56,7 @@ unfolding claimed entries
 claimed-none n P i =
     let c : 0 - n / 2 ≡ 0 = omega arith in
     let m : min 0 P ≡ 0 = omega arith in
-    rw (c, m) (state-is refl (λ t. sym (waits-high 0 0 (votesAt n 0 i) t (omega arith))) refl)
+    rw (c, m) (state-is refl (λ t. sym (waits-high 0 0 (votesAfter n 0 i) t (omega arith))) refl)
 
 shared-none : (S : ℕ → ℕ) (n P : ℕ)
     → record { states = replicate n empty; counter = 0; starts = []; records = []; piggyback = Piggyback.None; nacks = 0; piggybacks = 0 } ≡ sharedAt S n P 0
@@ -144,7 +144,7 @@ module _ {g : Given} (a : Accepted g) (w : Suited g) where
             lossless-tries (setupOf g (r .shared)) (lengthLimit (g .roundSlots) (g .diameter) (g .repeats)) i (ready .packet) (r .standing)
             (a .checked) (w .joined) (initiator-lt k) (a .repeats-low) (omega (arith, slots-most k, enough (g .roundSlots) (w .room))) even
 
-        ready-is : ready ≡ record { shared = within (firstSlot g) (g .nodes) (g .proposals) k (begunAt (g .nodes) (g .proposals) k); packet = sent (g .nodes) (g .proposals) k }
+        ready-is : ready ≡ record { shared = inRound (firstSlot g) (g .nodes) (g .proposals) k (begunAt (g .nodes) (g .proposals) k); packet = sent (g .nodes) (g .proposals) k }
         ready-is = ap₂ (λ (x : ℕ) (s : Shared). prepareRound (g .nodes) (g .proposals) i x s) (now .slot) (now .shared) ∙ prepared (firstSlot g) (fits early)
 
         shared : processRound (g .nodes) (ready .packet) (flooded .after .slot) (flooded .part) (ready .shared) ≡ sharedAt (firstSlot g) (g .nodes) (g .proposals) (suc k)

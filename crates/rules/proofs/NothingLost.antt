@@ -4,14 +4,14 @@ use mathlib.Core.Bool.{Bool, true, _||_}
 use mathlib.Core.Logic.{_↔_}
 use mathlib.Core.Path.{_≡_, ap, subst}
 use native.Mathlib.Omega.{arith}
-use Rattle.random.specs.Reception.{lossless, received, heard}
+use Rattle.random.specs.Reception.{lossless, succeeds, heardAt}
 use Rattle.random.specs.Draws.{draw}
 use Rattle.phy.proofs.Tries.{Tallied, tallied-none, tallied-then, all-heard, none-lost}
 use Rattle.metrics.specs.declared.summary.Summary.{Summary}
 use Rattle.config.specs.declared.Config.{Config}
 use Rattle.config.specs.Limits.{mostRounds}
 use Rattle.rules.specs.Run.{runFor, Given, begin, run}
-use Rattle.rules.specs.ExactRounds.{Asked, ofRows, ofTopology, givenFor}
+use Rattle.rules.specs.ExactRounds.{RowsOrTopology, ofRows, ofTopology, givenFor}
 use Rattle.rules.specs.NothingLost.{EqualWhenHeard, EqualAtRate0, ExactAtRate0}
 use Rattle.rules.proofs.Ends.{along-rounds, tallied-next}
 use Rattle.rules.proofs.Admitted.{admitted}
@@ -33,14 +33,14 @@ equal-when-heard q c logs records snapshots s e =
     ((λ same k h. all-heard t (omega (arith, same)) k (omega arith) h), (λ all. let r = none-lost t (λ k low h. all k h) in omega (arith, r)))
 
 -- every attempt is heard at a rate of 0 or minus 0
-heard-0 : (q : Asked) (c : Config) → lossless (c .«loss_rate») ≡ true → (k : ℕ) → givenFor q c .heard k ≡ true
-unfolding heard
-heard-0 (ofRows rows n) c e k = ap (λ (b : Bool). b || received (c .«loss_rate») (draw (c .seed) k)) e
-heard-0 (ofTopology topology first second) c e k = ap (λ (b : Bool). b || received (c .«loss_rate») (draw (c .seed) k)) e
+heard-0 : (q : RowsOrTopology) (c : Config) → lossless (c .«loss_rate») ≡ true → (k : ℕ) → givenFor q c .heard k ≡ true
+unfolding heardAt
+heard-0 (ofRows rows n) c e k = ap (λ (b : Bool). b || succeeds (c .«loss_rate») (draw (c .seed) k)) e
+heard-0 (ofTopology topology first second) c e k = ap (λ (b : Bool). b || succeeds (c .«loss_rate») (draw (c .seed) k)) e
 
 pub equal-at-rate-0 : EqualAtRate0
 equal-at-rate-0 q c logs records snapshots s e free = equal-when-heard q c logs records snapshots s e .1 (λ k h. heard-0 q c free k)
 
 pub exact-at-rate-0 : ExactAtRate0
 exact-at-rate-0 q c logs records snapshots s e free w =
-    exact-rounds q c logs records snapshots s (record { accepted = e; received = equal-at-rate-0 q c logs records snapshots s e free; suited = w })
+    exact-rounds q c logs records snapshots s (record { accepted = e; equal = equal-at-rate-0 q c logs records snapshots s e free; suited = w })

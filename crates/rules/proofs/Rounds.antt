@@ -16,16 +16,16 @@ use Rattle.rules.specs.Questions.{slotsAllowed}
 use Rattle.rules.specs.Run.{Given, Running, runRound}
 
 -- a round has at most 4,096 slots
-pub limit-few : (slots : RoundSlots) (d repeats : ℕ) → slotsAllowed slots ≡ true → d < maxNodes → repeats ≤ maxRepeats → lengthLimit slots d repeats ≤ maxRoundSlots
-limit-few (RoundSlots.Of s) d repeats ok short few = leb-true s maxRoundSlots ok
-limit-few RoundSlots.Absent d repeats ok short few =
+pub longest-few : (slots : RoundSlots) (d repeats : ℕ) → slotsAllowed slots ≡ true → d < maxNodes → repeats ≤ maxRepeats → lengthLimit slots d repeats ≤ maxRoundSlots
+longest-few (RoundSlots.Of s) d repeats ok near few = leb-true s maxRoundSlots ok
+longest-few RoundSlots.Absent d repeats ok near few =
     let most : (d + 2) * repeats ≤ 33 * 64 = mul-le-mul {n₁ = d + 2} {m₁ = repeats} {n₂ = 33} {m₂ = 64} (omega arith) (omega arith) in
     omega (arith, most)
 
 -- no more nodes are covered than there are
-pub covered-few : (g : Setup) (limit initiator : ℕ) (packet : Packet) (s : Standing) → round g limit initiator packet s .covered ≤ g .nodes
+pub covered-few : (g : Setup) (longest initiator : ℕ) (packet : Packet) (s : Standing) → round g longest initiator packet s .covered ≤ g .nodes
 unfolding round coverage
-covered-few g limit initiator packet s = count-le (g .nodes) _
+covered-few g longest initiator packet s = count-le (g .nodes) _
 
 -- a round more was run
 pub rounds-more : (g : Given) (k : ℕ) (r : Running) → length (runRound g k r .rounds) ≡ length (r .rounds) + 1

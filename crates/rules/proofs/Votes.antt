@@ -1,19 +1,14 @@
--- Unions and sizes of sets of nodes, and the set of the initiators of consecutive rounds. Assumes nothing.
+-- Unions of sets of nodes, and the set of the initiators of consecutive rounds. Assumes nothing.
 use Prim.Native.Nat.{ℕ, zero, suc, _+_, _-_, _*_, _/_, _%_, _^_, _<_, _≤_, max}
 use mathlib.Core.Bool.{Bool, true, false, cond}
 use mathlib.Core.Path.{_≡_, refl, sym, ap, ap₂, _∙_}
-use native.Mathlib.Nat.{pow-suc, mod-lt, mod-eq-of-lt, mod-add-mod, mod-eq-sub-mod, add-zero, add-suc, add-assoc, zero-div}
-use native.Mathlib.Numerals.{add-one, one-add}
+use native.Mathlib.Nat.{mod-lt, mod-eq-of-lt, mod-add-mod, mod-eq-sub-mod, add-zero, add-suc, add-assoc, zero-div}
 use native.Mathlib.Omega.{arith}
 use borrow.Author.Tests.{ne-eqb, ltb-true, ltb-false}
-use lib.Count.{onesIn}
 use lib.Dec.{ltb}
-use lib.Pow.{shr-lt, shr-shr, pow-lt, pow-pos}
+use lib.Pow.{pow-lt, pow-pos}
 use Rattle.protocol.specs.Paxos.{unionIn, union, size, vote}
-use Rattle.protocol.proofs.Sets.{union-bit, vote-bit, union-assoc}
-
-half-lt : (k a : ℕ) → a < 2 ^ suc k → a / 2 < 2 ^ k
-half-lt k a h = shr-lt k 1 (rw add-one h)
+use Rattle.protocol.proofs.Sets.{half-lt, union-lt, union-bit, vote-bit, union-assoc, size-more}
 
 -- ---- unions
 
@@ -38,11 +33,6 @@ none-in (suc k) a h =
     let e : unionIn k (0 / 2) (a / 2) ≡ a / 2 = none-in k (a / 2) (half-lt k a h) in
     omega (arith, e)
 
-lt-in : (k a b : ℕ) → unionIn k a b < 2 ^ k
-unfolding unionIn
-lt-in zero a b = omega arith
-lt-in (suc k) a b = omega (arith, lt-in k (a / 2) (b / 2), pow-suc 2 k)
-
 pub union-comm : (a b : ℕ) → union a b ≡ union b a
 unfolding union
 union-comm a b = comm-in 64 a b
@@ -55,10 +45,6 @@ pub union-none : (a : ℕ) → a < 2 ^ 64 → union 0 a ≡ a
 unfolding union
 union-none a h = none-in 64 a h
 
-pub union-lt : (a b : ℕ) → union a b < 2 ^ 64
-unfolding union
-union-lt a b = lt-in 64 a b
-
 pub vote-lt : (i : ℕ) → i < 64 → vote i < 2 ^ 64
 vote-lt i h = pow-lt h
 
@@ -68,31 +54,6 @@ union-twice a b h = union-assoc a b b ∙ ap (union a) (union-same b h)
 
 pub union-swap : (a b c : ℕ) → union (union a b) c ≡ union (union a c) b
 union-swap a b c = union-assoc a b c ∙ ap (union a) (union-comm b c) ∙ sym (union-assoc a c b)
-
--- ---- one node more
-
-half-shift : (x i : ℕ) → x / 2 ^ suc i ≡ x / 2 / 2 ^ i
-half-shift x i = ap (λ (j : ℕ). x / 2 ^ j) (sym (one-add i)) ∙ sym (shr-shr x 1 i)
-
-size-in : (k s i : ℕ) → s < 2 ^ k → i < k → s / 2 ^ i % 2 ≡ 0 → onesIn k (unionIn k s (2 ^ i)) ≡ onesIn k s + 1
-unfolding unionIn onesIn
-size-in zero s i h l e = absurd (omega arith)
-size-in (suc k) s zero h l e =
-    let f : unionIn k (s / 2) 0 ≡ s / 2 = comm-in k (s / 2) 0 ∙ none-in k (s / 2) (half-lt k s h) in
-    let a : (unionIn k (s / 2) 0 * 2 + max (s % 2) 1) / 2 ≡ s / 2 = omega (arith, f) in
-    let b : (unionIn k (s / 2) 0 * 2 + max (s % 2) 1) % 2 ≡ 1 = omega arith in
-    ap₂ (λ (x y : ℕ). x + onesIn k y) b a ∙ omega arith
-size-in (suc k) s (suc i) h l e =
-    let v : 2 ^ suc i / 2 ≡ 2 ^ i = omega (arith, pow-suc 2 i) in
-    let w : 2 ^ suc i % 2 ≡ 0 = omega (arith, pow-suc 2 i) in
-    let u : unionIn k (s / 2) (2 ^ suc i / 2) ≡ unionIn k (s / 2) (2 ^ i) = ap (unionIn k (s / 2)) v in
-    let a : (unionIn k (s / 2) (2 ^ suc i / 2) * 2 + max (s % 2) (2 ^ suc i % 2)) / 2 ≡ unionIn k (s / 2) (2 ^ i) = omega (arith, u, w) in
-    let b : (unionIn k (s / 2) (2 ^ suc i / 2) * 2 + max (s % 2) (2 ^ suc i % 2)) % 2 ≡ s % 2 = omega (arith, w) in
-    ap₂ (λ (x y : ℕ). x + onesIn k y) b a ∙ omega (arith, size-in k (s / 2) i (half-lt k s h) (omega arith) (ap (λ (x : ℕ). x % 2) (sym (half-shift s i)) ∙ e))
-
-pub size-with : (s i : ℕ) → s < 2 ^ 64 → i < 64 → s / 2 ^ i % 2 ≡ 0 → size (union s (vote i)) ≡ size s + 1
-unfolding size union
-size-with s i h l e = size-in 64 s i h l e
 
 -- ---- the initiators of the m rounds from t on
 
@@ -106,8 +67,8 @@ starters-lt n t zero = pow-pos 64
 starters-lt n t (suc m) = union-lt (starters n t m) (vote ((t + m) % n))
 
 -- fewer than n apart, they differ
-pub apart : (n a d : ℕ) → 0 < d → d < n → a % n ≡ (a + d) % n → ⊥
-apart n a d h l e = go (a % n) (mod-lt a (omega arith)) (e ∙ sym (mod-add-mod a n d))
+pub initiators-differ : (n a d : ℕ) → 0 < d → d < n → a % n ≡ (a + d) % n → ⊥
+initiators-differ n a d h l e = go (a % n) (mod-lt a (omega arith)) (e ∙ sym (mod-add-mod a n d))
   where
     go : (r : ℕ) → r < n → r ≡ (r + d) % n → ⊥
     go r b q = past (ltb (r + d) n) refl
@@ -119,24 +80,24 @@ apart n a d h l e = go (a % n) (mod-lt a (omega arith)) (e ∙ sym (mod-add-mod 
             let w : r + d - n < n = omega arith in
             omega (arith, q, mod-eq-sub-mod s, mod-eq-of-lt w)
 
-others : (n t m j : ℕ) → j < 64 → ((i : ℕ) → i < m → j ≡ (t + i) % n → ⊥) → starters n t m / 2 ^ j % 2 ≡ 0
+not-started : (n t m j : ℕ) → j < 64 → ((i : ℕ) → i < m → j ≡ (t + i) % n → ⊥) → starters n t m / 2 ^ j % 2 ≡ 0
 unfolding starters
-others n t zero j h f = rw (zero-div (2 ^ j))
-others n t (suc m) j h f =
+not-started n t zero j h f = rw (zero-div (2 ^ j))
+not-started n t (suc m) j h f =
     union-bit j (starters n t m) (vote ((t + m) % n)) h
-    ∙ ap₂ max (others n t m j h (λ i l. f i (omega arith))) (vote-bit ((t + m) % n) j ∙ ap {B = ℕ} (λ (b : Bool). cond b 1 0) (ne-eqb j ((t + m) % n) (f m (omega arith))))
+    ∙ ap₂ max (not-started n t m j h (λ i l. f i (omega arith))) (vote-bit ((t + m) % n) j ∙ ap {B = ℕ} (λ (b : Bool). cond b 1 0) (ne-eqb j ((t + m) % n) (f m (omega arith))))
 
-size-none : size 0 ≡ 0
+size-0 : size 0 ≡ 0
 unfolding size
-size-none = refl
+size-0 = refl
 
 -- up to n of them are as many nodes
 pub size-starters : (n t m : ℕ) → 0 < n → n ≤ 64 → m ≤ n → size (starters n t m) ≡ m
 unfolding starters
-size-starters n t zero h w l = size-none
+size-starters n t zero h w l = size-0
 size-starters n t (suc m) h w l =
-    size-with (starters n t m) ((t + m) % n) (starters-lt n t m) (omega (arith, mod-lt (t + m) h))
-    (others n t m ((t + m) % n) (omega (arith, mod-lt (t + m) h)) (λ i b q. apart n (t + i) (m - i) (omega arith) (omega arith) (sym q ∙ ap (λ (x : ℕ). x % n) (far i b))))
+    size-more (starters n t m) ((t + m) % n) (omega (arith, mod-lt (t + m) h))
+    (not-started n t m ((t + m) % n) (omega (arith, mod-lt (t + m) h)) (λ i b q. initiators-differ n (t + i) (m - i) (omega arith) (omega arith) (sym q ∙ ap (λ (x : ℕ). x % n) (far i b))))
     ∙ omega (arith, size-starters n t m h w (omega arith))
   where
     far : (i : ℕ) → i < m → t + m ≡ t + i + (m - i)

@@ -23,9 +23,9 @@ pub record Accepted (g : Given) : Type 0 where
   pub two : 2 ≤ g .nodes
   pub few : g .nodes ≤ maxNodes
   pub measured : g .diameter ≡ diameter (g .rows) (g .nodes)
-  pub short : g .diameter < maxNodes
+  pub diameter-low : g .diameter < maxNodes
   pub repeats-low : 1 ≤ g .repeats
   pub repeats-high : g .repeats ≤ maxRepeats
-  pub slots : slotsAllowed (g .roundSlots) ≡ true
+  pub round-slots : slotsAllowed (g .roundSlots) ≡ true
   pub proposals : g .proposals ≤ maxTerms
   pub interval : 1 ≤ g .interval

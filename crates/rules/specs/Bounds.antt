@@ -2,13 +2,13 @@
 use Prim.Native.Nat.{ℕ, _+_, _-_, _*_, _/_, _^_, _≤_, _<_}
 use mathlib.Core.List.{List}
 use mathlib.Core.Path.{_≡_}
-use Rattle.config.specs.Limits.{maxTerms, maxRoundSlots, mostRounds}
+use Rattle.config.specs.Limits.{maxTerms, maxRoundSlots, mostRounds, countBound}
 use Rattle.phy.specs.Round.{lengthLimit}
 use Rattle.metrics.specs.declared.summary.Summary.{Summary}
 use Rattle.config.specs.declared.Config.{Config}
 use Rattle.rules.specs.declared.answer.Answer.the-variants.{Ran}
 use Rattle.rules.specs.Run.{Given}
-use Rattle.rules.specs.ExactRounds.{Asked, givenFor, outcomeFor}
+use Rattle.rules.specs.ExactRounds.{RowsOrTopology, givenFor, outcomeFor}
 
 -- the most slots that a round may have
 abbrev pub longest : Given → ℕ
@@ -47,11 +47,11 @@ pub record Bounds (g : Given) (s : Summary) : Type 0 where
   -- slots over interval, rounded up
   pub snapshots : s .snapshots ≡ (s .slots + g .interval - 1) / g .interval
   -- so all counts fit in 40 bits, even their sum
-  pub small : together s < 2 ^ 40
+  pub small : together s < countBound
 
 -- the summary of every accepted run, of rows or of a topology, keeps the bounds
 abbrev pub AllBounded : Type 0
 AllBounded =
-    (q : Asked) (c : Config) (logs records snapshots : List ℕ) (s : Summary) →
+    (q : RowsOrTopology) (c : Config) (logs records snapshots : List ℕ) (s : Summary) →
     outcomeFor q c logs records snapshots .answer ≡ Ran s →
     Bounds (givenFor q c) s

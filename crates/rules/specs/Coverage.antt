@@ -30,7 +30,7 @@ heldFrom n k j (Payload.Of q) = KeptFrom n k j q
 abbrev pub HeldPackets : ℕ → ℕ → List Node → Type 0
 HeldPackets n k nodes = (j : ℕ) → j < n → heldFrom n k j (at nodes j .payload)
 
--- in every round of every run, whatever its outcomes, the number of covered nodes is the number of those that took part
+-- in every round of every run, whatever its receptions, the number of covered nodes is the number of those that took part
 abbrev pub CoveredTookPart : Type 0
 CoveredTookPart =
     (g : Given) (k : ℕ) (p : Past) →

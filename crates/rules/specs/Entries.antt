@@ -1,6 +1,6 @@
 -- What an entry answers, and the final contents of the lent buffers (rules 1.4, 2.6, 7.1 to 7.5, 9.1 and 9.3).
 use Prim.Native.Nat.{ℕ, zero, suc, _+_, _*_}
-use mathlib.Core.List.{List, [], _∷_, map}
+use mathlib.Core.List.{List, [], _∷_, _++_, map}
 use mathlib.Core.Option.{Option, none, some}
 use lib.ListN.{length}
 use lib.Seq.{sets}
@@ -9,7 +9,7 @@ use Rattle.network.specs.Graph.{widened}
 use Rattle.network.specs.Questions.{nodesOf}
 use Rattle.network.specs.Topology.{topologyRows, topologyOf}
 use Rattle.network.specs.Distance.{diameter}
-use Rattle.random.specs.Reception.{heard}
+use Rattle.random.specs.Reception.{heardAt}
 use Rattle.phy.specs.declared.node.Node.{Node}
 use Rattle.phy.specs.Slot.{sumOf}
 use Rattle.phy.specs.Snapshots.{snapshotsWith}
@@ -19,7 +19,7 @@ use Rattle.config.specs.declared.Config.{Config}
 use Rattle.rules.specs.declared.answer.Answer.{Answer}
 use Rattle.rules.specs.declared.answer.Answer.the-variants.{Ran, Refused}
 use Rattle.rules.specs.Questions.{rowsRefusal, topologyRefusal}
-use Rattle.pipeline.specs.Round.{Record, stateOf}
+use Rattle.pipeline.specs.Round.{Record, recordTriple, stateOf}
 use Rattle.rules.specs.Run.{Given, Running, Ended, run}
 
 -- the answer, and what the three buffers hold afterwards
@@ -65,10 +65,10 @@ logsWith old states (suc i) =
     let log : List ℕ = terms (stateOf states i .log) in
     sets (sets (logsWith old states i) (maxTerms * i) log) (logCounts + i) (length log ∷ [])
 
--- records: id, start, end, one after the other
+-- the records' numbers, one record after the other
 unfoldable pub recordNumbers : List Record → List ℕ
 recordNumbers [] = []
-recordNumbers (r ∷ rs) = r .id ∷ r .start ∷ r .end ∷ recordNumbers rs
+recordNumbers (r ∷ rs) = recordTriple r ++ recordNumbers rs
 
 -- What a run that is not refused gives. Places of the record buffer behind the records stay, and of the snapshots those that fit whole are
 -- stored.
@@ -82,7 +82,7 @@ ranWith g logs records snapshots =
       snapshots = snapshotsWith snapshots (e .running .standing .shots .taken);
     }
 
--- the run of a graph of n nodes with this diameter, where the outcome of an attempt is that of rule 2.6
+-- the run of a graph of n nodes with this diameter, whose receptions are those of rule 2.6
 abbrev pub givenAs : List ℕ → ℕ → ℕ → Config → Given
 givenAs graph n d c =
     record {
@@ -94,7 +94,7 @@ givenAs graph n d c =
       proposals = c .«num_proposals»;
       interval = c .«snapshot_interval»;
       limit = c .«max_slots»;
-      heard = heard (c .«loss_rate») (c .seed);
+      heard = heardAt (c .«loss_rate») (c .seed);
     }
 
 -- the run of n nodes with these rows

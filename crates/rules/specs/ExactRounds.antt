@@ -72,7 +72,7 @@ pub record ExactRecord (g : Given) (records : List ℕ) (t : ℕ) : Type 0 where
 
 -- Node j's log after the run holds exactly the terms 0 to P - 1, in order; in the buffer its count is P and its terms are those.
 pub record ExactLog (g : Given) (e : Ended) (logs : List ℕ) (j : ℕ) : Type 0 where
-  pub held : terms (stateOf (e .running .shared .states) j .log) ≡ tabulate (g .proposals) (λ (t : ℕ). t)
+  pub log : terms (stateOf (e .running .shared .states) j .log) ≡ tabulate (g .proposals) (λ (t : ℕ). t)
   pub count : getD logs (logCounts + j) 0 ≡ g .proposals
   pub term-at : (t : ℕ) → t < g .proposals → getD logs (maxTerms * j + t) 0 ≡ t
 
@@ -84,7 +84,7 @@ pub record ExactRounds (g : Given) (e : Ended) (s : Summary) (logs records : Lis
   pub ended : s .ended ≡ 1
   pub rounds : s .rounds ≡ roundsOf g
   -- these are its rounds
-  pub all : length (e .running .rounds) ≡ roundsOf g
+  pub played : length (e .running .rounds) ≡ roundsOf g
   pub each : (k : ℕ) (p : Past) → getElem? (e .running .rounds) k ≡ some p → ExactRound g k p
   -- its slots are the sum over its rounds; listen, flood and sleep are the sums over its rounds and nodes
   pub slots : s .slots ≡ sum (roundsOf g) (slotsIn g)
@@ -103,16 +103,16 @@ pub record ExactRounds (g : Given) (e : Ended) (s : Summary) (logs records : Lis
 -- ---- the premises
 
 -- a run is asked for by rows, or by a topology with its two numbers
-pub data Asked : Type 0 where
-  ofRows : List ℕ → ℕ → Asked
-  ofTopology : ℕ → ℕ → ℕ → Asked
+pub data RowsOrTopology : Type 0 where
+  ofRows : List ℕ → ℕ → RowsOrTopology
+  ofTopology : ℕ → ℕ → ℕ → RowsOrTopology
 
-abbrev pub givenFor : Asked → Config → Given
+abbrev pub givenFor : RowsOrTopology → Config → Given
 givenFor (ofRows rows n) c = givenOf rows n c
 givenFor (ofTopology topology first second) c =
     givenOf (topologyRows (topologyOf topology second) (nodesOf topology first second)) (nodesOf topology first second) c
 
-abbrev pub outcomeFor : Asked → Config → List ℕ → List ℕ → List ℕ → Outcome
+abbrev pub outcomeFor : RowsOrTopology → Config → List ℕ → List ℕ → List ℕ → Outcome
 outcomeFor (ofRows rows n) c logs records snapshots = runOfRows rows n c logs records snapshots
 outcomeFor (ofTopology topology first second) c logs records snapshots = runOfTopology topology first second c logs records snapshots
 
@@ -130,15 +130,15 @@ pub record Suited (g : Given) : Type 0 where
   pub limit : roundsOf g * (g .diameter + g .repeats) ≤ g .limit
 
 -- The run is accepted with the summary s, each of its attempts succeeds, and its configuration is suited.
-pub record NoneLost (q : Asked) (c : Config) (logs records snapshots : List ℕ) (s : Summary) : Type 0 where
+pub record NoneLost (q : RowsOrTopology) (c : Config) (logs records snapshots : List ℕ) (s : Summary) : Type 0 where
   pub accepted : outcomeFor q c logs records snapshots .answer ≡ Ran s
-  pub received : s .attempts ≡ s .successes
+  pub equal : s .attempts ≡ s .successes
   pub suited : Suited (givenFor q c)
 
 -- Demand 3, for a run of rows and of a topology, whatever the seed and the loss rate.
 abbrev pub Demand3 : Type 0
 Demand3 =
-    (q : Asked) (c : Config) (logs records snapshots : List ℕ) (s : Summary) →
+    (q : RowsOrTopology) (c : Config) (logs records snapshots : List ℕ) (s : Summary) →
     NoneLost q c logs records snapshots s →
     ExactRounds (givenFor q c) (run (givenFor q c)) s
     (outcomeFor q c logs records snapshots .logs) (outcomeFor q c logs records snapshots .records)

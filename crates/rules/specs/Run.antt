@@ -15,8 +15,8 @@ use Rattle.phy.specs.Round.{Flooded, lengthLimit, round}
 use Rattle.protocol.specs.Paxos.{State, empty, logged}
 use Rattle.pipeline.specs.Round.{Shared, Prepared, stateOf, initiatorOf, prepareRound, processRound, shortestLog}
 
--- What a run is given: the rows of the graph, its number of nodes and its diameter, the configuration, and the outcome of each attempt by
--- the attempt's number.
+-- What a run is given: the rows of the graph, its number of nodes and its diameter, the configuration, and its receptions:
+-- whether an attempt is heard, by its number.
 pub record Given : Type 0 where
   pub rows : List ℕ
   pub nodes : ℕ

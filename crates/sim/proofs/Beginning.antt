@@ -13,6 +13,7 @@ use lib.ListN.{replicate, length-replicate, getD-replicate}
 use Rattle.config.specs.Limits.{maxNodes, maxTerms}
 use Rattle.random.specs.Table.{tabulate}
 use Rattle.network.specs.Graph.{has, setOf}
+use Rattle.network.proofs.Lowest.{has-zero}
 use Rattle.network.proofs.Sets.{two}
 use Rattle.random.proofs.Tables.{is-tabulate}
 use Rattle.phy.specs.declared.node.Node.{Node}
@@ -21,9 +22,8 @@ use Rattle.phy.specs.declared.slot.Flood.{Flood}
 use Rattle.phy.specs.Node.{new, total, isListening, isFlooding}
 use Rattle.phy.specs.Slot.{at, Standing}
 use Rattle.phy.specs.View.{Stands}
-use Rattle.phy.proofs.Masks.{has-zero}
 use Rattle.phy.proofs.Count.{count-none}
-use Rattle.phy.proofs.Snapshots.{recorded-none}
+use Rattle.phy.proofs.Snapshots.{scheduled-none}
 use Rattle.protocol.specs.Layout.{nodeSize, firstOf}
 use Rattle.protocol.specs.Paxos.{empty}
 use Rattle.protocol.proofs.Frame.{fresh-view, fresh-kept, zeros as no-start}
@@ -80,7 +80,7 @@ module _ (n listening : ℕ) (few : n ≤ maxNodes) (all : listening ≡ 2 ^ n -
         attempts = refl;
         successes = refl;
         slot = refl;
-        shots = recorded-none b;
+        shots = scheduled-none b;
       }
 
   pub new-flood : NewFlood n newFlood

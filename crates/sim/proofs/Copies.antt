@@ -1,19 +1,22 @@
 -- What the buffers hold: a copy one place after the other, the terms of a log, the numbers of the records. Assumes nothing.
 use Prim.Native.Nat.{ℕ, zero, suc, _+_, _*_, _≤_, _<_}
 use mathlib.Core.Path.{_≡_, refl, sym, ap, ap₂, _∙_}
-use mathlib.Core.List.{List, [], _∷_, _++_, append-assoc}
+use mathlib.Core.List.{List, [], _∷_, _++_}
 use native.Mathlib.Nat.{le-antisymm, le-refl, add-zero}
 use native.Mathlib.Numerals.{add-one}
 use native.Mathlib.Omega.{arith}
 use lib.ListN.{length, getD, set, take}
 use lib.Seq.{sets, length-sets, take-all}
+use Rattle.config.specs.Limits.{recordSize}
 use Rattle.random.specs.Table.{tabulate}
-use Rattle.random.proofs.Tables.{tabulate-snoc, getD-tabulate}
+use Rattle.random.proofs.Tables.{length-tabulate, tabulate-snoc, getD-tabulate}
+use Rattle.phy.proofs.Snapshots.{sets-append}
 use Rattle.protocol.specs.Paxos.{State, empty}
 use Rattle.protocol.specs.View.{logOf, view}
-use Rattle.pipeline.specs.Round.{Record, stateOf}
+use Rattle.pipeline.specs.Round.{Record, recordTriple, stateOf}
 use Rattle.rules.specs.Entries.{terms, logsWith, recordNumbers}
 use Rattle.pipeline.specs.View.{recordAt, recordsOf, statesOf}
+use Rattle.rules.proofs.ExactBuffers.{length-numbers}
 
 -- ---- the first n places of s are copied to a list from the place `at` on, and k of them are done
 pub record Copied (s before : List ℕ) (at n : ℕ) (after : List ℕ) (k : ℕ) : Type 0 where
@@ -64,34 +67,19 @@ logs-length old states (suc i) =
     ∙ length-sets (logsWith old states i) (64 * i) log
     ∙ logs-length old states i
 
--- ---- the numbers of the records, in their places
-numbers-snoc : (rs : List Record) (r : Record) → recordNumbers (rs ++ (r ∷ [])) ≡ recordNumbers rs ++ (r .id ∷ r .start ∷ r .end ∷ [])
+-- ---- the numbers of the records, one record after the other
+numbers-snoc : (rs : List Record) (r : Record) → recordNumbers (rs ++ (r ∷ [])) ≡ recordNumbers rs ++ recordTriple r
 unfolding recordNumbers
 numbers-snoc [] r = refl
-numbers-snoc (x ∷ rs) r = ap (λ (l : List ℕ). x .id ∷ x .start ∷ x .end ∷ l) (numbers-snoc rs r)
+numbers-snoc (x ∷ rs) r = ap (λ (l : List ℕ). recordTriple x ++ l) (numbers-snoc rs r)
 
-abbrev numberAt : List ℕ → ℕ → ℕ
-numberAt l k = getD l (64 + k) 0
-
-three-more : (l : List ℕ) (j : ℕ) → tabulate (j + 3) (numberAt l) ≡ tabulate j (numberAt l) ++ (numberAt l j ∷ numberAt l (j + 1) ∷ numberAt l (j + 2) ∷ [])
-three-more l j =
-    let e : j + 3 ≡ j + 1 + 1 + 1 = omega arith in
-    let e2 : j + 1 + 1 ≡ j + 2 = omega arith in
-    ap (λ (k : ℕ). tabulate k (numberAt l)) e
-    ∙ tabulate-snoc (j + 1 + 1) (numberAt l)
-    ∙ ap₂ (λ (m : List ℕ) (k : ℕ). m ++ (numberAt l k ∷ [])) (tabulate-snoc (j + 1) (numberAt l) ∙ ap (λ (m : List ℕ). m ++ (numberAt l (j + 1) ∷ [])) (tabulate-snoc j (numberAt l))) e2
-    ∙ simp append-assoc
-
-pub numbers-are : (l : List ℕ) (n : ℕ) → recordNumbers (recordsOf n l) ≡ tabulate (3 * n) (numberAt l)
-unfolding recordNumbers recordsOf tabulate
-numbers-are l zero = refl
-numbers-are l (suc n) =
-    let e : 3 * suc n ≡ 3 * n + 3 = omega arith in
-    let e1 : 64 + 3 * n + 1 ≡ 64 + (3 * n + 1) = omega arith in
-    let e2 : 64 + 3 * n + 2 ≡ 64 + (3 * n + 2) = omega arith in
-    ap (λ (k : ℕ). recordNumbers (tabulate k (recordAt l))) (sym (add-one n))
-    ∙ ap recordNumbers (tabulate-snoc n (recordAt l))
-    ∙ numbers-snoc (tabulate n (recordAt l)) (recordAt l n)
-    ∙ (λ i. numbers-are l n i ++ (numberAt l (3 * n) ∷ getD l (e1 i) 0 ∷ getD l (e2 i) 0 ∷ []))
-    ∙ sym (three-more l (3 * n))
-    ∙ ap (λ (k : ℕ). tabulate k (numberAt l)) (sym e)
+pub numbers-more : (history out : List ℕ) (k : ℕ)
+    → sets (sets out 0 (recordNumbers (recordsOf k history))) (recordSize * k) (recordTriple (recordAt history k)) ≡ sets out 0 (recordNumbers (recordsOf (k + 1) history))
+unfolding recordsOf
+numbers-more history out k =
+    let done = recordNumbers (tabulate k (recordAt history)) in
+    let three = recordTriple (recordAt history k) in
+    let place : recordSize * k ≡ 0 + length done = omega (arith, length-numbers (tabulate k (recordAt history)), length-tabulate k (recordAt history)) in
+    ap (λ (i : ℕ). sets (sets out 0 done) i three) place
+    ∙ sym (sets-append out 0 done three)
+    ∙ ap (sets out 0) (sym (ap recordNumbers (tabulate-snoc k (recordAt history)) ∙ numbers-snoc (tabulate k (recordAt history)) (recordAt history k)))

@@ -39,7 +39,7 @@ module _ {graph : List ℕ} {p : Plan} {r : Stopped} {b₀ states history snapsh
         nacks = e .goes .shows .shared i .nacks;
         piggybacks = e .goes .shows .shared i .piggybacks;
         records = count-is (e .goes .shows) i;
-        snapshots = st .shots .counted i;
+        snapshots = st .shots .number i;
       }
 
   pub finishes : {s : Summary} (logs records : List ℕ) {logs' records' : List ℕ} → s ≡ summaryFrom (p .nodes) r → logs' ≡ logsWith logs (statesOf (p .nodes) states) (p .nodes)

@@ -21,7 +21,7 @@ use Rattle.pipeline.specs.View.{sharedOf, MayPrepare, Prepares, MayProcess, Pro
 use Rattle.rules.specs.Accepted.{Accepted}
 use Rattle.rules.specs.Run.{Given, Running, setupOf, preparedIn, floodedIn, runRound}
 use Rattle.rules.proofs.Coverage.{covered-part}
-use Rattle.rules.proofs.Rounds.{limit-few, covered-few}
+use Rattle.rules.proofs.Rounds.{longest-few, covered-few}
 use Rattle.sim.specs.declared.run.Plan.{Plan}
 use Rattle.sim.specs.declared.run.Run.{Run}
 use Rattle.sim.specs.Going.{planned, settingsOf, Workspace, workspace, lentOf, Shows, Steady, Going, Plays}
@@ -58,10 +58,10 @@ module _ {graph : List ℕ} {p : Plan} {k : ℕ} {x : Run} {w : Workspace} {b₀
         most = ok .proposals;
       }
 
-  pub can-flood : {y : Settings} {limit : ℕ} → y ≡ settingsOf p (x .progress) → limit ≡ longest → CanFlood y limit (k % p .nodes) (x .flood) (lentOf w)
-  can-flood {y} {limit} q e =
-      subst⁻¹ (λ (z : Settings). CanFlood z limit (k % p .nodes) (x .flood) (lentOf w)) q
-      (let few = limit-few (p .config .«round_slots») (p .diameter) (p .config .«flood_repeats») (ok .slots) (ok .short) (ok .repeats-high) in
+  pub can-flood : {y : Settings} {most : ℕ} → y ≡ settingsOf p (x .progress) → most ≡ longest → CanFlood y most (k % p .nodes) (x .flood) (lentOf w)
+  can-flood {y} {most} q e =
+      subst⁻¹ (λ (z : Settings). CanFlood z most (k % p .nodes) (x .flood) (lentOf w)) q
+      (let few = longest-few (p .config .«round_slots») (p .diameter) (p .config .«flood_repeats») (ok .round-slots) (ok .diameter-low) (ok .repeats-high) in
       record {
         sound = sound-as p 0 (x .progress) (g₀ .steady .sound);
         node = initiator-in;
@@ -87,11 +87,11 @@ module _ {graph : List ℕ} {p : Plan} {k : ℕ} {x : Run} {w : Workspace} {b₀
             below = pr .below;
           }
 
-      module _ {y : Settings} {limit : ℕ} {flooded : Round} {l : Tables} {carry : Carry} {b' t' : List ℕ} (q : y ≡ settingsOf p (x .progress)) (e : limit ≡ longest)
-          (fl₀ : Rounded y graph limit (k % p .nodes) (x .flood) (lentOf w) flooded l)
+      module _ {y : Settings} {most : ℕ} {flooded : Round} {l : Tables} {carry : Carry} {b' t' : List ℕ} (q : y ≡ settingsOf p (x .progress)) (e : most ≡ longest)
+          (fl₀ : Rounded y graph most (k % p .nodes) (x .flood) (lentOf w) flooded l)
           (pc : Processes (p .nodes) (prepared .packet) (flooded .flood .slot) (flooded .part) (prepared .carry) b t carry b' t') where
-        fl : Rounded (settingsOf p (x .progress)) graph limit (k % p .nodes) (x .flood) (lentOf w) flooded l
-        fl = subst (λ (z : Settings). Rounded z graph limit (k % p .nodes) (x .flood) (lentOf w) flooded l) q fl₀
+        fl : Rounded (settingsOf p (x .progress)) graph most (k % p .nodes) (x .flood) (lentOf w) flooded l
+        fl = subst (λ (z : Settings). Rounded z graph most (k % p .nodes) (x .flood) (lentOf w) flooded l) q fl₀
 
         abbrev after : Run
         after = record { flood = flooded .flood; carry = carry; covered = x .covered + ones (flooded .part); progress = x .progress }
@@ -111,7 +111,7 @@ module _ {graph : List ℕ} {p : Plan} {k : ℕ} {x : Run} {w : Workspace} {b₀
           packet-is = _∙_ {b = mine .packet} (pr .packet) (ap (λ (q : Prepared). q .packet) same)
 
           abbrev here : Flooded
-          here = round (asSetup (settingsOf p (x .progress)) graph (given .heard)) limit (k % p .nodes) (prepared .packet) (s .standing)
+          here = round (asSetup (settingsOf p (x .progress)) graph (given .heard)) most (k % p .nodes) (prepared .packet) (s .standing)
 
           flood-is : here ≡ floodedIn given k s
           flood-is = λ j.
@@ -127,7 +127,7 @@ module _ {graph : List ℕ} {p : Plan} {k : ℕ} {x : Run} {w : Workspace} {b₀
 
           -- the nodes that took part are counted, and they are the covered ones
           covered-is : ones (flooded .part) ≡ floodedIn given k s .covered
-          covered-is = ap ones part-is ∙ ones-part given k s ∙ sym (covered-part given k s (g .held))
+          covered-is = ap ones part-is ∙ ones-part given k s ∙ sym (covered-part given k s (g .packets))
 
           shows : Shows p after then b₁ (runRound given k s)
           unfolding runRound
@@ -147,7 +147,7 @@ module _ {graph : List ℕ} {p : Plan} {k : ℕ} {x : Run} {w : Workspace} {b₀
 
         steady : Steady (given .heard) p (k + 1) after then
         steady =
-            let few = limit-few (p .config .«round_slots») (p .diameter) (p .config .«flood_repeats») (ok .slots) (ok .short) (ok .repeats-high) in
+            let few = longest-few (p .config .«round_slots») (p .diameter) (p .config .«flood_repeats») (ok .round-slots) (ok .diameter-low) (ok .repeats-high) in
             record {
               sound = sound-as p (x .progress) 0 (fl .sound);
               sharing = pc .sharing;

@@ -100,7 +100,7 @@ underway-new graph p most x w can new =
           piggybacks = omega (arith, new .piggybacks);
         };
         rounds = refl;
-        held = held-begin g;
+        packets = held-begin g;
         progress = new .progress ∙ sym (shortest-new (p .nodes));
       };
       rest = ap (λ (m : ℕ). roundsFrom g m 0 (begin g)) all;
@@ -180,7 +180,7 @@ module _ {graph : List ℕ} {p : Plan} {most : ℕ} {b₀ : List ℕ} where
                 shows = shows-as shown;
                 steady = steady-as (pl .steady);
                 rounds = rounds;
-                held = held-round (planned graph p) k (u .here) (u .going .held);
+                packets = held-round (planned graph p) k (u .here) (u .going .packets);
                 progress = seen .shortest ∙ ap (λ (y : List State). shortestLog y (p .nodes)) (states-are shown);
               };
               rest =

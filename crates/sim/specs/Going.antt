@@ -5,7 +5,7 @@ use mathlib.Core.Bool.{Bool}
 use mathlib.Core.List.{List}
 use lib.ListN.{length, replicate}
 use Rattle.config.specs.Limits.{maxNodes, maxTerms, maxRepeats, maxRoundSlots, mostRounds, logSize, recordsSize}
-use Rattle.random.specs.Draws.{Before}
+use Rattle.random.specs.Draws.{DrawNext}
 use Rattle.random.specs.Reception.{Source}
 use Rattle.phy.specs.declared.slot.Settings.{Settings}
 use Rattle.phy.specs.declared.slot.Flood.{Flood}
@@ -63,7 +63,7 @@ pub record Shows (p : Plan) (x : Run) (w : Workspace) (b₀ : List ℕ) (s : Run
   pub shared : sharedOf (p .nodes) (x .carry) (w .states) (w .history) ≡ s .shared
   pub covered : x .covered ≡ s .covered
 
--- What holds of the code's own numbers after k rounds of a run whose attempts have these outcomes.
+-- What holds of the code's own numbers after k rounds of a run with these receptions.
 pub record Steady (heard : ℕ → Bool) (p : Plan) (k : ℕ) (x : Run) (w : Workspace) : Type 0 where
   pub sound : Sound (settingsOf p 0) (x .flood)
   pub sharing : Sharing (p .nodes) (x .carry) (w .states) (w .history)
@@ -80,7 +80,7 @@ pub record Going (graph : List ℕ) (p : Plan) (k : ℕ) (x : Run) (w : Workspac
   pub shows : Shows p x w b₀ s
   pub steady : Steady (planned graph p .heard) p k x w
   pub rounds : length (s .rounds) ≡ k
-  pub held : HeldPackets (p .nodes) k (s .standing .nodes)
+  pub packets : HeldPackets (p .nodes) k (s .standing .nodes)
   pub progress : x .progress ≡ shortestLog (s .shared .states) (p .nodes)
 
 -- ---- one round
@@ -126,7 +126,7 @@ pub record CanStart (graph : List ℕ) (p : Plan) (most : ℕ) (states history :
 -- and so with the other tables
 pub record CanGo (graph : List ℕ) (p : Plan) (most : ℕ) (w : Workspace) : Type 0 where
   pub begins : CanStart graph p most (w .states) (w .history)
-  pub stream : Before (p .config .seed) 0 (w .stream)
+  pub stream : DrawNext (p .config .seed) 0 (w .stream)
   pub room : p .config .«flood_repeats» ≤ length (w .queue)
 
 -- Of a run that may take `most` rounds, k are played.

@@ -4,7 +4,8 @@ use config::limits::MAX_TERMS;
 use config::limits::RECORD_SIZE;
 use network::units::NodeId;
 use pipeline::records::HISTORY_SIZE;
-use pipeline::records::RECORDS_PLACE;
+use pipeline::records::put_record;
+use pipeline::records::record_at;
 use protocol::state::logged_count;
 use protocol::state::logged_term;
 use protocol::state::place_of;
@@ -60,8 +61,8 @@ pub fn write_records(history: &[u64; HISTORY_SIZE], count: u64, out: &mut [u64])
     requires { ⌜ (count ≤ maxTerms) × (recordSize * count ≤ length (now out)) ⌝ }
     ensures { λ _. ⌜ now (out .exit) ≡ sets (now (out .entry)) 0 (recordNumbers (recordsOf count (now (history .entry)))) ⌝ }
 {
-    let n = RECORD_SIZE * (count as usize);
+    let n = count as usize;
     for k in 0..n {
-        out[k] = history[RECORDS_PLACE + k];
+        put_record(out, RECORD_SIZE * k, record_at(history, k));
     }
 }

@@ -138,12 +138,12 @@ fn run_round(
     let prepared = prepare_round(before, states, history, n, proposals, initiator, slot);
     let packet = prepared.packet;
     let slots = config.round_slots;
-    let limit = length_limit(slots, plan.diameter as u64, config.flood_repeats);
+    let longest = length_limit(slots, plan.diameter as u64, config.flood_repeats);
     let settings = settings_of(plan, x.progress);
     let round = flood_identical_round(
         settings,
         graph,
-        limit,
+        longest,
         initiator,
         flood,
         queue,

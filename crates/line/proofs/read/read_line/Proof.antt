@@ -2,7 +2,7 @@ use mathlib.Core.Path.{sym, ap, _∙_}
 use borrow.Author.Tests.{eq-eqb, ne-eqb}
 use borrow.Author.Needs.{needs}
 use lib.ListN.{length}
-use Rattle.line.specs.Line.{newline, before, fields, readFields, readLine}
+use Rattle.line.specs.Line.{newline, bytesBefore, fields, readFields, readLine}
 use Rattle.line.proofs.read.read_line.Statement.{statement}
 use Rattle.line.proofs.read.read_line.Tie as tie
 
@@ -17,7 +17,7 @@ returns-2 : tie.Need-returns-2
 unfolding readLine
 returns-2 c =
     let line = c .before .before .part-before .ensures in
-    let count = length (fields (before newline (c .before .before .before .before .args .input .now))) in
+    let count = length (fields (bytesBefore newline (c .before .before .before .before .args .input .now))) in
     simp (ne-eqb count 10 (λ e. c .if1 .left (c .before .field-count .ensures ∙ ap (λ l. length (fields l)) line ∙ e)))
 
 pub read-line-spec : {M : Type 1} → statement M

@@ -2,13 +2,13 @@ use Prim.Native.Nat.{_+_, _-_, _≤_}
 use mathlib.Core.Path.{_≡_}
 use native.Mathlib.Omega.{arith}
 use lib.ListN.{length, drop}
-use Rattle.line.specs.Line.{before}
+use Rattle.line.specs.Line.{bytesBefore}
 use Rattle.line.proofs.Fields.{before-end, before-stop, before-other}
 use Rattle.line.proofs.read.until.Statement.{statement}
 use Rattle.line.proofs.read.until.Tie as tie
 
 abbrev Inv-loop : tie.InvT-loop
-Inv-loop s stop i₀ i = (i ≤ length s) × (length (before stop s) ≡ i + length (before stop (drop i s)))
+Inv-loop s stop i₀ i = (i ≤ length s) × (length (bytesBefore stop s) ≡ i + length (bytesBefore stop (drop i s)))
 
 abbrev μ-loop : tie.MeasureT-loop
 μ-loop s stop i₀ i = length s - i

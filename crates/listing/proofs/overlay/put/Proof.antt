@@ -12,7 +12,7 @@ stored : (c : tie.Joined1) → c .if1 .out ≡ set (c .before .args .out .now) (
 stored c = ⊎-elim (λ w. w .1) (λ w. w .1 ∙ sym (set-out _ _ _ (w .0 .left))) (c .if1 .came)
 
 returns : tie.Need-returns
-returns c = record { contents = stored c; place = refl; short = omega arith }
+returns c = record { contents = stored c; place = refl; at-most = omega arith }
 
 pub put-spec : {M : Type 1} → statement M
 put-spec = tie.close (tie.spec (λ c. search needs) (λ c. search needs) (λ c. ap length (stored c) ∙ simp length-set) returns)

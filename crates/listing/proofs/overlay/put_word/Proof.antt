@@ -3,7 +3,7 @@ use native.Mathlib.Omega.{arith}
 use lib.ListN.{length, take}
 use lib.Seq.{take-all}
 use Rattle.listing.specs.Overlay.{Laid}
-use Rattle.listing.proofs.Overlays.{take-more, nothing, _then_, within, same-size}
+use Rattle.listing.proofs.Overlays.{take-more, laid-nothing, _then_, within, same-size}
 use Rattle.listing.proofs.overlay.put_word.Statement.{statement}
 use Rattle.listing.proofs.overlay.put_word.Tie as tie
 
@@ -30,5 +30,5 @@ pub put-word-spec : {M : Type 1} → statement M
 put-word-spec =
     tie.close
     (tie.spec
-    Inv-loop μ-loop (λ c. (omega arith, nothing _ _)) (λ c. omega arith) (λ c κs. omega arith) (λ c. omega arith)
+    Inv-loop μ-loop (λ c. (omega arith, laid-nothing _ _)) (λ c. omega arith) (λ c κs. omega arith) (λ c. omega arith)
     (λ c. omega arith) loop-again (λ c. same-size (c .before .loop .inv .1)) returns)

@@ -7,7 +7,7 @@ use Prim.Native.Nat.{ℕ, _≤_, _<_}
 use lib.ListN.{getD}
 use borrow.Author.Tests.{not-true, not-false, le-leb, lt-leb}
 use Rattle.network.specs.Graph.{rowsRight, widened, Checked}
-use Rattle.config.specs.Limits.{maxNodes}
+use Rattle.config.specs.Limits.{minNodes, maxNodes}
 use Rattle.network.specs.Questions.{question4, within}
 use Rattle.network.specs.Distance.{diameter, measured}
 use Rattle.network.specs.declared.distance.Measured.the-variants.{Links}
@@ -27,7 +27,7 @@ abbrev entry : tie.Else2 → tie.Start
 entry c = c .before .before .before .before
 
 -- past question 2
-few : (c : tie.Else2) → (within 2 maxNodes (entry c .args .n) ≡ true) × (entry c .args .n ≤ maxNodes)
+few : (c : tie.Else2) → (within minNodes maxNodes (entry c .args .n) ≡ true) × (entry c .args .n ≤ maxNodes)
 few c =
     let e = sym (c .before .before .lies-in .ensures) ∙ not-false _ (c .before .if1 .left) in
     (e, within-both 2 maxNodes (entry c .args .n) e .1)

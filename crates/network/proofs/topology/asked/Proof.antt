@@ -5,7 +5,7 @@ use mathlib.Core.Bool.{true}
 use native.Mathlib.Omega.{arith}
 use borrow.Author.Needs.{needs}
 use borrow.Author.Tests.{not-true, not-false, le-leb, lt-leb}
-use Rattle.config.specs.Limits.{maxNodes}
+use Rattle.config.specs.Limits.{minNodes, maxNodes}
 use Rattle.network.specs.Questions.{within}
 use Rattle.network.specs.declared.topology.Built.the-variants.{Nodes}
 use Rattle.network.proofs.Within.{within-both}
@@ -16,7 +16,7 @@ returns : tie.Need-returns
 returns c = rw (sym (c .before .before .lies-in .ensures) ∙ not-true _ (c .before .if1 .taken)) (c .refused .ensures)
 
 -- past question 2
-few : (c : tie.Else1) → within 2 maxNodes (c .before .before .args .nodes) ≡ true
+few : (c : tie.Else1) → within minNodes maxNodes (c .before .before .args .nodes) ≡ true
 few c = sym (c .before .lies-in .ensures) ∙ not-false _ (c .if1 .left)
 
 returns-2 : tie.Need-returns-2

@@ -5,7 +5,7 @@ use mathlib.Core.List.{List, _++_}
 use Prim.Native.Nat.{ℕ, _≤_, _-_, zero-le}
 use native.Mathlib.Omega.{arith}
 use lib.ListN.{length, getD, set, take, drop, length-set}
-use Rattle.network.proofs.Rows.{copied-more}
+use Rattle.network.proofs.Rows.{rows-copied}
 use Rattle.network.proofs.topology.copy_rows.Statement.{statement}
 use Rattle.network.proofs.topology.copy_rows.Tie as tie
 
@@ -29,7 +29,7 @@ loop-again c =
       omega arith,
       (
         simp length-set (b .loop .inv .1 .0),
-        ap (λ (l : List ℕ). set l i (getD (a .wide .now) i 0)) (b .loop .inv .1 .1) ∙ copied-more (a .wide .now) (a .out .now) i (omega arith) (omega arith),
+        ap (λ (l : List ℕ). set l i (getD (a .wide .now) i 0)) (b .loop .inv .1 .1) ∙ rows-copied (a .wide .now) (a .out .now) i (omega arith) (omega arith),
       ),
     )
 

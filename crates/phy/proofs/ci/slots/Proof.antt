@@ -16,18 +16,18 @@ use Rattle.phy.proofs.ci.slots.Statement.{statement}
 use Rattle.phy.proofs.ci.slots.Tie as tie
 
 -- from x₀ and t₀ the code has come to x and t, with so many slots of the limit left
-record Onward (g : Settings) (rows : List ℕ) (limit : ℕ) (x₀ : Flood) (t₀ : Tables) (x : Flood) (t : Tables) (more place : ℕ) : Type 0 where
+record Onward (g : Settings) (rows : List ℕ) (longest : ℕ) (x₀ : Flood) (t₀ : Tables) (x : Flood) (t : Tables) (more place : ℕ) : Type 0 where
   sound : Sound g x
-  slots-left : x .slot .0 + more ≤ x₀ .slot .0 + limit
+  slots-left : x .slot .0 + more ≤ x₀ .slot .0 + longest
   size : length (t .snapshots) ≡ length (t₀ .snapshots)
   met : Meets g place x t
   source : (heard : ℕ → Bool) → Source (g .rate) heard (x₀ .attempts) (t₀ .stream) → Source (g .rate) heard (x .attempts) (t .stream)
   here : (heard : ℕ → Bool) → Source (g .rate) heard (x₀ .attempts) (t₀ .stream) → (b₀ : List ℕ) (s₀ : Standing) → InSlot g 0 x₀ t₀ b₀ s₀
-      → (s : Standing) × InSlot g place x t b₀ s × (slots (asSetup g rows heard) more s ≡ slots (asSetup g rows heard) limit s₀)
+      → (s : Standing) × InSlot g place x t b₀ s × (slots (asSetup g rows heard) more s ≡ slots (asSetup g rows heard) longest s₀)
 
 -- one slot more
-module _ {g : Settings} {rows : List ℕ} {limit : ℕ} {x₀ : Flood} {t₀ : Tables} {x : Flood} {t : Tables} {more place : ℕ} {r : Flood} {t' : Tables}
-    (o : Onward g rows limit x₀ t₀ x t more place) (some : 1 ≤ more) (stepped : Stepped g rows place x t r t') where
+module _ {g : Settings} {rows : List ℕ} {longest : ℕ} {x₀ : Flood} {t₀ : Tables} {x : Flood} {t : Tables} {more place : ℕ} {r : Flood} {t' : Tables}
+    (o : Onward g rows longest x₀ t₀ x t more place) (some : 1 ≤ more) (stepped : Stepped g rows place x t r t') where
   one : more ≡ suc (more - 1)
   one = omega (arith, some)
 
@@ -42,9 +42,9 @@ module _ {g : Settings} {rows : List ℕ} {limit : ℕ} {x₀ : Flood} {t₀ : T
         here = stepped .stands (met .heard) (met .source) (met .first) (met .standing) (met .here);
       }
 
-  onward : (r .flooding ≡ 0 → ⊥) → length (t' .snapshots) ≡ length (t .snapshots) → {p : ℕ} → p ≡ placeAfter (g .repeats) place 1 → Onward g rows limit x₀ t₀ r t' (more - 1) p
+  onward : (r .flooding ≡ 0 → ⊥) → length (t' .snapshots) ≡ length (t .snapshots) → {p : ℕ} → p ≡ placeAfter (g .repeats) place 1 → Onward g rows longest x₀ t₀ r t' (more - 1) p
   onward floods same {p} e =
-      subst⁻¹ (Onward g rows limit x₀ t₀ r t' (more - 1)) e
+      subst⁻¹ (Onward g rows longest x₀ t₀ r t' (more - 1)) e
       (record {
         sound = stepped .sound;
         slots-left = omega (arith, stepped .slots, o .slots-left, some);
@@ -59,7 +59,7 @@ module _ {g : Settings} {rows : List ℕ} {limit : ℕ} {x₀ : Flood} {t₀ : T
             (slotStep setup (old .0), new, sym (slots-more setup (more - 1) (old .0) goes) ∙ ap (λ (k : ℕ). slots setup k (old .0)) (sym one) ∙ old .2);
       })
 
-  ends : r .flooding ≡ 0 → Slotted g rows limit x₀ t₀ r t'
+  ends : r .flooding ≡ 0 → Slotted g rows longest x₀ t₀ r t'
   ends quiet =
       record {
         sound = stepped .sound;
@@ -75,11 +75,11 @@ module _ {g : Settings} {rows : List ℕ} {limit : ℕ} {x₀ : Flood} {t₀ : T
       }
 
 abbrev Inv-loop : tie.InvT-loop
-Inv-loop settings rows limit queue₀ stream₀ snapshots₀ x₀ more₀ place₀ queue stream snapshots x more place =
-    Onward settings rows limit x₀ (tables queue₀ stream₀ snapshots₀) x (tables queue stream snapshots) more place
+Inv-loop settings rows longest queue₀ stream₀ snapshots₀ x₀ more₀ place₀ queue stream snapshots x more place =
+    Onward settings rows longest x₀ (tables queue₀ stream₀ snapshots₀) x (tables queue stream snapshots) more place
 
 abbrev μ-loop : tie.MeasureT-loop
-μ-loop settings rows limit queue₀ stream₀ snapshots₀ x₀ more₀ place₀ queue stream snapshots x more place = more
+μ-loop settings rows longest queue₀ stream₀ snapshots₀ x₀ more₀ place₀ queue stream snapshots x more place = more
 
 loop-holds : tie.Need-loop-holds Inv-loop μ-loop
 loop-holds c =

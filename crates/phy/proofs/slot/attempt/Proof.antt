@@ -26,15 +26,15 @@ returns : tie.Need-returns
 unfolding attempt attemptAll
 returns c =
     let a = c .before .before .before .before .before .before .args in
-    let received = c .before .before .before .before .receive .ensures in
+    let receive = c .before .before .before .before .receive .ensures in
     record {
       attempts = omega arith;
       successes = omega arith;
       tried = λ heard s.
-          let heard-it : heard (a .t .attempts) ≡ true = sym (received .received heard s) ∙ c .before .before .before .if1 .taken in
+          let heard-it : heard (a .t .attempts) ≡ true = sym (receive .told heard s) ∙ c .before .before .before .if1 .taken in
           (λ i. record { attempts = a .t .attempts + 1; successes = a .t .successes + 1; reached = or-shifted-bit setBits {s = a .t .reached} {j = a .j .0} (omega arith) (omega arith) i })
           ∙ ap (λ (b : Bool). attemptBy b (triesOf (a .t)) (a .j .0)) (sym heard-it);
-      source = received .next;
+      source = receive .next;
     }
 
 add-t13 : tie.Need-add-t13
@@ -44,14 +44,14 @@ returns-2 : tie.Need-returns-2
 unfolding attempt attemptAll
 returns-2 c =
     let a = c .before .before .before .before .args in
-    let received = c .before .before .receive .ensures in
+    let receive = c .before .before .receive .ensures in
     record {
       attempts = omega arith;
       successes = omega arith;
       tried = λ heard s.
-          let lost : heard (a .t .attempts) ≡ false = sym (received .received heard s) ∙ c .before .if1 .left in
+          let lost : heard (a .t .attempts) ≡ false = sym (receive .told heard s) ∙ c .before .if1 .left in
           ap (λ (b : Bool). attemptBy b (triesOf (a .t)) (a .j .0)) (sym lost);
-      source = received .next;
+      source = receive .next;
     }
 
 pub attempt-spec : {M : Type 1} → statement M

@@ -7,12 +7,11 @@ use denote.Ref.{now}
 use lib.Count.{trailingZeros}
 use Rattle.config.specs.Limits.{setBits}
 use Rattle.network.specs.Graph.{has, linked}
-use Rattle.network.proofs.Lowest.{Walked, Next, walked-none, walked-all, walked-next, nonzero}
+use Rattle.network.proofs.Lowest.{Walked, Next, walked-none, walked-all, walked-next, nonzero, has-zero}
 use Rattle.network.proofs.Sets.{has-below}
 use Rattle.phy.specs.Slot.{among, receivers}
 use Rattle.phy.specs.View.{TriedOn}
 use Rattle.phy.proofs.Attempts.{tried-none, tried-then, tried-as, receivers-more, receivers-skip, receivers-none, receivers-of}
-use Rattle.phy.proofs.Masks.{has-zero}
 use Rattle.phy.proofs.slot.attempts.Statement.{statement}
 use Rattle.phy.proofs.slot.attempts.Tie as tie
 

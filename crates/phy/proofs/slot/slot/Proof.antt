@@ -16,12 +16,21 @@ few c =
     let start = c .before .before .before in
     few-slots (start .args .settings .nodes) (start .pre .0 .few) (start .pre .1) (start .pre .2 .here .stands) (c .shown .ensures)
 
--- where the parts of the slot have been called
+-- The calls, each seen from a place behind it.
+abbrev entered : tie.After-attempts-arg → tie.Start
+entered c = c .before .before .before .before .before .before .before .before .before
+
 abbrev called : tie.After-struct-known2 → tie.After-advance
 called c = c .before .before
 
+abbrev attempted : tie.After-advance → tie.After-attempts
+attempted c = c .before .before .before
+
+abbrev shot-at : tie.After-attempts → tie.After-take-snapshots
+shot-at c = c .before .before .before .before
+
 abbrev shown-at : tie.After-struct-known2 → tie.After-shown
-shown-at c = called c .before .before .before .before .before .before .before .before
+shown-at c = shot-at (attempted (called c)) .before .before .before
 
 shown-requires : tie.Need-shown-requires
 shown-requires c κs =
@@ -35,7 +44,7 @@ take-snapshots-requires c κs = search needs
 
 attempts-requires : tie.Need-attempts-requires
 attempts-requires c κs =
-    let start = c .before .before .before .before .before .before .before .before in
+    let start = entered c in
     let sound = start .pre .0 in
     let early = start .pre .1 in
     let nodes = start .pre .2 .standing .nodes in
@@ -51,31 +60,31 @@ attempts-requires c κs =
     }
 
 advance-requires : tie.Need-advance-requires
-advance-requires c κs = let pre = c .before .before .before .before .before .before .before .before .before .before .pre in omega (arith, pre .0 .repeats .1, pre .2 .here .queued .place)
-
-add-t22 : tie.Need-add-t22
-add-t22 c = record { fits = few (shown-at c) .0 }
-
-add-t23 : tie.Need-add-t23
-add-t23 c = record { fits = few (shown-at (c .before .before)) .1 }
+advance-requires c κs = let pre = entered (c .before .before .before) .pre in omega (arith, pre .0 .repeats .1, pre .2 .here .queued .place)
 
 add-t24 : tie.Need-add-t24
-add-t24 c = record { fits = few (shown-at (c .before .before .before .before)) .2 }
+add-t24 c = record { fits = few (shown-at c) .0 }
 
 add-t25 : tie.Need-add-t25
-add-t25 c = omega (arith, shown-at (c .before .before .before .before .before) .before .before .before .pre .1)
+add-t25 c = record { fits = few (shown-at (c .before .before)) .1 }
+
+add-t26 : tie.Need-add-t26
+add-t26 c = record { fits = few (shown-at (c .before .before .before .before)) .2 }
+
+add-t27 : tie.Need-add-t27
+add-t27 c = omega (arith, shown-at (c .before .before .before .before .before) .before .before .before .pre .1)
 
 same-length : tie.Need-same-length
-same-length c = search needs
+same-length c = shot-at (attempted (called (c .before .before .before .before .before))) .take-snapshots .kept .1 .1 .1 .1 .0
 
 returns : tie.Need-returns
 returns c =
     let done = called (c .before .before .before .before .before) in
     let adv = done .advance in
-    let tried = done .before .before .attempts in
-    let taken = done .before .before .before .before .before .before .take-snapshots in
-    let seen = done .before .before .before .before .before .before .before .before .shown in
-    let start = done .before .before .before .before .before .before .before .before .before .before .before in
+    let tried = attempted done .attempts in
+    let taken = shot-at (attempted done) .take-snapshots in
+    let seen = shown-at (c .before .before .before .before .before) .shown in
+    let start = entered (attempted done .before) in
     let sound = start .pre .0 in
     let a = start .args in
     record {
@@ -102,9 +111,9 @@ slot-spec =
     take-snapshots-requires
     attempts-requires
     advance-requires
-    add-t22
-    add-t23
     add-t24
     add-t25
+    add-t26
+    add-t27
     same-length
     returns)

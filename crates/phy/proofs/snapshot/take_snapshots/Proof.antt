@@ -5,7 +5,7 @@ use native.Mathlib.Omega.{arith}
 use lib.ListN.{length}
 use Rattle.phy.specs.Slot.{Shots, takeOne, takeWhile}
 use Rattle.phy.specs.View.{shotOf, Scheduled}
-use Rattle.phy.proofs.Snapshots.{none-due, one-due, recorded-one, next-fits, one-more}
+use Rattle.phy.proofs.Snapshots.{none-due, one-due, scheduled-one, next-fits, one-more}
 use Rattle.phy.proofs.snapshot.take_snapshots.Statement.{statement}
 use Rattle.phy.proofs.snapshot.take_snapshots.Tie as tie
 
@@ -66,7 +66,7 @@ loop-again c =
             most - 1,
             takeOne (a .interval) shot x,
             omega (arith, so-far .2, start .pre .0),
-            recorded-one (a .interval) shot refl (so-far .3) (taken .ensures),
+            scheduled-one (a .interval) shot refl (so-far .3) (taken .ensures),
             sym (one-due (a .interval) shot (a .slot .0) (most - 1) x (omega (arith, so-far .3 .due, due)))
                 ∙ ap (λ (k : ℕ). takeWhile (a .interval) shot (a .slot .0) k x) (sym left)
                 ∙ so-far .4,
@@ -82,7 +82,7 @@ returns c =
     let a = c .before .before .before .args in
     record {
       multiple = l .inv .1;
-      recorded = λ b₀ x₀ r₀.
+      scheduled = λ b₀ x₀ r₀.
           let all = l .inv .2 b₀ x₀ r₀ in
           subst (Scheduled (l .next) (l .count) b₀ (l .snapshots))
           (sym (none-due (a .interval) (shotOf (a .shown)) (a .slot .0) (all .0) (all .1) (omega (arith, all .3 .due, c .loop-test .left))) ∙ all .4) (all .3);

@@ -12,13 +12,13 @@ use Rattle.network.specs.Graph.{has}
 use Rattle.phy.specs.Slot.{among}
 use Rattle.phy.specs.declared.packet.Packet.{Packet}
 use Rattle.protocol.specs.Layout.{firstOf}
-use Rattle.protocol.specs.Turns.{Initiated, counted, initiatorTurn}
+use Rattle.protocol.specs.Turns.{Initiated, counterAfter, initiatorTurn}
 use Rattle.protocol.specs.View.{view, Kept, TermsBelow, Initiates}
 use Rattle.protocol.proofs.Chains.{back-mono}
 use Rattle.pipeline.specs.Round.{stateOf, oneNack, prepareRound}
 use Rattle.pipeline.specs.View.{sharedOf, statesOf}
 use Rattle.pipeline.proofs.Recordings.{records-are}
-use Rattle.pipeline.proofs.Sharing.{started-as, kept-as, counted-is, proposing, nack-at-most, state-at, states-set, start-at, starts-recording, starts-records, starts-same, started-same, initiator-newly, kept-set}
+use Rattle.pipeline.proofs.Sharing.{started-as, kept-as, counter-after-is, proposing, nack-at-most, state-at, states-set, start-at, starts-recording, starts-records, starts-same, started-same, initiator-newly, kept-set}
 use Rattle.pipeline.proofs.round.prepare_round.Statement.{statement}
 use Rattle.pipeline.proofs.round.prepare_round.Tie as tie
 
@@ -38,7 +38,7 @@ initiator-turn-requires c κs =
     let pre = start .pre in
     record {
       kept = subst⁻¹ (Kept (a .x .counter) (now (a .states))) (c .before .place-of .ensures) (pre .sharing .kept .each (a .initiator .0) (pre .initiator));
-      few = omega (arith, counted-is (ltb (a .x .counter) (a .proposals)) (a .x .counter), room start);
+      few = omega (arith, counter-after-is (ltb (a .x .counter) (a .proposals)) (a .x .counter), room start);
       node = omega (arith, pre .initiator, pre .nodes);
       nodes = pre .two;
     }
@@ -97,7 +97,7 @@ returns c =
     let spec : Initiated = initiatorTurn i n (x .counter) b (x .piggyback) (stateOf (statesOf n held) i) in
     let same : spec ≡ initiatorTurn i n (x .counter) b (x .piggyback) (view held (firstOf i)) = ap (initiatorTurn i n (x .counter) b (x .piggyback)) (state-at n held i here) in
     let packet : turn .result .packet ≡ spec .packet = took .packet ∙ sym (ap (λ (t : Initiated). t .packet) same) in
-    let counted-now : counted b (x .counter) ≡ x .counter + one .result = counted-is b (x .counter) ∙ sym count in
+    let counted-now : counterAfter b (x .counter) ≡ x .counter + one .result = counter-after-is b (x .counter) ∙ sym count in
     let newly : among maxTerms (has (turn .result .newly)) ≡ spec .newly
     = ap (λ (w : ℕ). among maxTerms (has w)) (took .newly) ∙ initiator-newly i n (x .counter) b (x .piggyback) (view held (firstOf i)) ∙ sym (ap (λ (t : Initiated). t .newly) same) in
     let states = states-set n held _ i (spec .state) (s .kept) here (took .wrote) (took .state ∙ sym (ap (λ (t : Initiated). t .state) same)) in

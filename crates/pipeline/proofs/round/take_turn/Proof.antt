@@ -9,7 +9,7 @@ use Rattle.network.specs.Graph.{has}
 use Rattle.phy.specs.Slot.{among}
 use Rattle.phy.specs.declared.packet.Piggyback.{Piggyback}
 use Rattle.protocol.specs.Layout.{firstOf}
-use Rattle.protocol.specs.Turns.{Taken, participantTurn}
+use Rattle.protocol.specs.Turns.{Participated, participantTurn}
 use Rattle.protocol.specs.View.{view, Kept, Takes}
 use Rattle.protocol.proofs.Kept.{kept-mono, last-mono}
 use Rattle.protocol.proofs.Chains.{terms-mono}
@@ -68,15 +68,15 @@ returns c =
         back = latest-below (x .counter) (turn .result .recovery) (x .piggyback) (took .back (x .counter) below (s .kept .each j h)) (s .back);
       };
       shared = λ n h s.
-          let spec : Taken = participantTurn j p (stateOf (statesOf n held) j) in
+          let spec : Participated = participantTurn j p (stateOf (statesOf n held) j) in
           let same : spec ≡ participantTurn j p (view held (firstOf j)) = ap (participantTurn j p) (state-at n held j h) in
-          let states = states-set n held _ j (spec .state) (s .kept) h (took .wrote) (took .state ∙ sym (ap (λ (t : Taken). t .state) same)) in
+          let states = states-set n held _ j (spec .state) (s .kept) h (took .wrote) (took .state ∙ sym (ap (λ (t : Participated). t .state) same)) in
           let newly : among maxTerms (has (turn .result .newly)) ≡ spec .newly
           = ap (λ (w : ℕ). among maxTerms (has w)) (took .newly)
           ∙ participant-newly j p (view held (firstOf j)) (last-mono (p .«last_accepted_term») (s .few) (below .last))
-          ∙ sym (ap (λ (t : Taken). t .newly) same) in
+          ∙ sym (ap (λ (t : Participated). t .newly) same) in
           let records = records-are (take (x .counter) (now (a .history))) (recorded .ensures) newly refl (start-at (s .started) (s .few)) in
-          let recovered = took .recovered ∙ sym (ap (λ (t : Taken). t .recovered) same) in
+          let recovered = took .recovered ∙ sym (ap (λ (t : Participated). t .recovered) same) in
           let back = ap (λ (q : Piggyback). latest q (x .piggyback)) recovered in
           let piggybacks = ap (λ (w : ℕ). x .piggybacks + w) (ap onePiggyback recovered) in
           let starts = starts-same (recorded .ensures) (x .counter) (x .counter) refl (s .few) in

@@ -8,7 +8,7 @@ use native.Mathlib.Omega.{arith}
 use borrow.Author.Tests.{eq-eqb, ne-eqb}
 use lib.Bits.{bitOr}
 use lib.Count.{ones}
-use lib.ListN.{length-set}
+use lib.ListN.{length, length-set}
 use Rattle.config.specs.Limits.{maxTerms}
 use Rattle.network.specs.Graph.{has}
 use Rattle.network.proofs.Lowest.{has-le}
@@ -79,62 +79,67 @@ logged-set-requires c κs = simp length-set (omega arith)
 cast-end : tie.Need-cast-end
 cast-end c = omega (arith, room c)
 
-add-states-2 : tie.Need-add-states-2
-add-states-2 c = search needs
+put-logged-requires : tie.Need-put-logged-requires
+put-logged-requires c κs = (simp length-set (omega arith), room (c .before))
 
-add-states-3 : tie.Need-add-states-3
-add-states-3 c = omega (arith, room c)
+-- the slice once the term is logged, and where that was found to be pending
+abbrev put : tie.After-slice-known2 → tie.After-put-logged
+put c = c .before .before
 
-mul-states-2 : tie.Need-mul-states-2
-mul-states-2 c = omega (arith, room c)
+abbrev logged : tie.After-slice-known2 → tie.After-logged-set
+logged c = put c .before .before
 
-slice-write-states-2 : tie.Need-slice-write-states-2
-slice-write-states-2 c = simp length-set (omega (arith, room c))
+abbrev found : tie.After-slice-known2 → tie.Then1
+found c = logged c .before .before
+
+put-length : (c : tie.After-slice-known2) → length (put c .put-logged .last .0) ≡ length (start (found c .before) .args .states .now)
+put-length c = put c .put-logged .kept .0 ∙ simp length-set
 
 shl-states : tie.Need-shl-states
 shl-states c = search needs
 
 sub-states : tie.Need-sub-states
 sub-states c =
-    let e = c .before .before in
+    let e = found c in
     let s = start (e .before) in
     let t = s .args .term .0 in
     omega (arith, bit-word t (s .pre .1), pending-is (e .before), has-le t (pendingSet (s .args .states .now) (s .args .at)) (is-pending e))
 
-add-states-4 : tie.Need-add-states-4
-add-states-4 c = search needs
+add-states-2 : tie.Need-add-states-2
+add-states-2 c = search needs
+
+mul-states-2 : tie.Need-mul-states-2
+mul-states-2 c = search needs
+
+slice-write-states-2 : tie.Need-slice-write-states-2
+slice-write-states-2 c = omega (arith, put-length c)
+
+shl-states-2 : tie.Need-shl-states-2
+shl-states-2 c = search needs
+
+add-states-3 : tie.Need-add-states-3
+add-states-3 c = search needs
 
 mul-states-3 : tie.Need-mul-states-3
 mul-states-3 c = search needs
 
 slice-write-states-3 : tie.Need-slice-write-states-3
-slice-write-states-3 c = simp length-set (omega arith)
-
-shl-states-2 : tie.Need-shl-states-2
-shl-states-2 c = search needs
-
-add-states-5 : tie.Need-add-states-5
-add-states-5 c = search needs
-
-mul-states-4 : tie.Need-mul-states-4
-mul-states-4 c = search needs
-
-slice-write-states-4 : tie.Need-slice-write-states-4
-slice-write-states-4 c = simp length-set (omega arith)
+slice-write-states-3 c = simp length-set (omega (arith, put-length c))
 
 same-length : tie.Need-same-length
-same-length c = search needs
+same-length c = simp length-set (put-length c)
 
 returns : tie.Need-returns
 returns c =
-    let e = c .before .before in
+    let e = found c in
     let s = start (e .before) in
     let a = s .args in
     let bit = bit-word (a .term .0) (s .pre .1) in
-    commit-pending (a .states .now) (a .at) (a .term .0) (e .before .larger .result) (s .pre .0) (s .pre .2) (last-is (e .before)) _ _ _ (s .pre .1) (is-pending e)
-    (ap ones (c .logged-set .ensures))
+    rw (put c .put-logged .ensures)
+    (commit-pending (a .states .now) (a .at) (a .term .0) (e .before .larger .result) (s .pre .0) (s .pre .2) (last-is (e .before)) _ _ _ (s .pre .1) (is-pending e)
+    (ap ones (logged c .logged-set .ensures))
     (ap₂ _-_ (pending-is (e .before)) bit)
-    (ap₂ bitOr (c .logged-set .ensures) bit)
+    (ap₂ bitOr (logged c .logged-set .ensures) bit))
 
 same-length-2 : tie.Need-same-length-2
 same-length-2 c = search needs
@@ -163,19 +168,16 @@ commit-term-spec =
     shr-if1
     logged-set-requires
     cast-end
-    add-states-2
-    add-states-3
-    mul-states-2
-    slice-write-states-2
+    put-logged-requires
     shl-states
     sub-states
-    add-states-4
+    add-states-2
+    mul-states-2
+    slice-write-states-2
+    shl-states-2
+    add-states-3
     mul-states-3
     slice-write-states-3
-    shl-states-2
-    add-states-5
-    mul-states-4
-    slice-write-states-4
     same-length
     returns
     same-length-2

@@ -15,11 +15,10 @@ use lib.Count.{trailingZeros, trailing-le, trailing-of-zero}
 use lib.Dec.{eqb}
 use lib.Pow.{shr-shr}
 use Rattle.network.specs.Graph.{has}
-use Rattle.network.proofs.Lowest.{Lowest, lowest, has-minus}
-use Rattle.phy.proofs.Masks.{has-zero}
+use Rattle.network.proofs.Lowest.{Lowest, lowest, has-minus, has-zero}
 use Rattle.config.specs.Limits.{maxTerms}
 use Rattle.protocol.specs.declared.paxos.Gap.{Gap}
-use Rattle.protocol.specs.Paxos.{held, after, detectGap}
+use Rattle.protocol.specs.Paxos.{held, afterLast, detectGap}
 use Rattle.protocol.specs.View.{view, pendingSet, loggedSet, lastAt, Kept}
 use Rattle.protocol.proofs.Words.{has-reach, reach-all}
 use Rattle.protocol.proofs.Commit.{gap-none, gap-is}
@@ -73,7 +72,7 @@ module _
       held-all gap ∙
       not-true _ (sym (has-free all last (trailingZeros 64 free) all-word h) ∙ low (λ z. omega (arith, ap (trailingZeros 64) z, trailing-of-zero 64)) .is)
 
-  from-last : after (view b at .last) ≡ last
+  from-last : afterLast (view b at .last) ≡ last
   from-last = after-last (lastAt b at) ∙ sym last-is
 
   none-up-to : (end : ℕ) → end ≤ gap → end ≤ 64 → detectGap end (view b at) ≡ Gap.None

@@ -15,8 +15,7 @@ use lib.Dec.{eqb, leb, ltb}
 use Rattle.config.specs.Limits.{maxTerms}
 use Rattle.network.specs.Graph.{has, all}
 use Rattle.network.proofs.Sets.{or-either, all-elim, has-out, has-below, one-shl}
-use Rattle.network.proofs.Lowest.{Lowest, Highest, lowest, highest}
-use Rattle.phy.proofs.Masks.{has-zero}
+use Rattle.network.proofs.Lowest.{Lowest, Highest, lowest, highest, has-zero}
 use Rattle.protocol.specs.Paxos.{Pending, size, majority, quorum}
 use Rattle.protocol.specs.View.{view, pendingSet, pendingOf, votesAt, dataAt}
 use Rattle.protocol.proofs.Commit.{greatest-none, greatest-is}
@@ -31,7 +30,7 @@ judged : (b : List ℕ) (at n t : ℕ) → quorum n (pendingOf b at t) ≡ (has 
 unfolding pendingOf
 judged b at n t = go (has (pendingSet b at) t)
   where
-    go : (x : Bool) → quorum n (cond x (some (record { votes = votesAt b at t; payload = dataAt b at t })) none) ≡ (x && leb (majority n) (size (votesAt b at t)))
+    go : (x : Bool) → quorum n (cond x (some (record { votes = votesAt b at t; «data» = dataAt b at t })) none) ≡ (x && leb (majority n) (size (votesAt b at t)))
     go true = refl
     go false = refl
 

@@ -66,7 +66,7 @@ returns c =
     let pre = b .pre in
     let bit = bit-word t (pre .term) in
     hold-next l (a .at) t (a .votes) (coded .result) _ (a .d) (pre .kept) (pre .term)
-    (ap dataOf (coded .ensures) ∙ data-code (a .d) (pre .payload))
+    (ap dataOf (coded .ensures) ∙ data-code (a .d) (pre .«data»))
     (pre .free)
     (ap₂ bitOr
     (c .pending-set .ensures ∙

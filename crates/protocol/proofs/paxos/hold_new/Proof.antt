@@ -23,7 +23,7 @@ hold-requires : tie.Need-hold-requires
 hold-requires c κs =
     let b = c .before .before .before .before .before in
     let i = c .before .before in
-    record { kept = b .pre .0; term = b .pre .1 .0; payload = b .pre .1 .1; free = sym (i .is-held .ensures) ∙ c .before .if1 .left }
+    record { kept = b .pre .0; term = b .pre .1 .0; «data» = b .pre .1 .1; free = sym (i .is-held .ensures) ∙ c .before .if1 .left }
 
 same-length-2 : tie.Need-same-length-2
 same-length-2 c = search needs

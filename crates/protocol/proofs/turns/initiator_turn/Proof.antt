@@ -4,7 +4,7 @@ use borrow.Author.Needs.{needs}
 use mathlib.Core.Path.{_≡_, ap, _∙_}
 use native.Mathlib.Omega.{arith}
 use Rattle.protocol.specs.Paxos.{detectGap}
-use Rattle.protocol.specs.Turns.{nack, counted, announce, initiatorTurn}
+use Rattle.protocol.specs.Turns.{nack, counterAfter, announce, initiatorTurn}
 use Rattle.protocol.specs.View.{view}
 use Rattle.protocol.proofs.Frame.{wrote-then}
 use Rattle.protocol.proofs.Kept.{kept-mono}
@@ -53,7 +53,7 @@ returns c =
     let e = sent .announce .ensures in
     initiates (a .node .0) (a .n) (a .counter) (a .proposes) (a .piggyback) (a .at) (a .states .now) _ (sent .announce .result) _ (s .pre .few)
     (wrote-then (proposed .wrote) (e .next .wrote))
-    (e .next .kept (counted (a .proposes) (a .counter)) tt (proposed .kept))
+    (e .next .kept (counterAfter (a .proposes) (a .counter)) tt (proposed .kept))
     (λ i. announce (a .node .0) (a .n) (current-is i) (nack-is i) (data-is i) (a .piggyback) (proposed .is i))
     (e .next .is) (e .packet) (e .newly)
 

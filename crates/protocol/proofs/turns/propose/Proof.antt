@@ -10,7 +10,7 @@ use native.Mathlib.Omega.{arith}
 use Rattle.config.specs.Limits.{maxTerms}
 use Rattle.phy.specs.declared.packet.Data.{Data}
 use Rattle.protocol.specs.Paxos.{hold}
-use Rattle.protocol.specs.Turns.{counted}
+use Rattle.protocol.specs.Turns.{counterAfter}
 use Rattle.protocol.specs.View.{view}
 use Rattle.protocol.proofs.Frame.{wrote-none}
 use Rattle.protocol.proofs.Kept.{kept-mono}
@@ -25,8 +25,8 @@ hold-requires : tie.Need-hold-requires
 hold-requires c κs =
     let s = c .before .before .before .before in
     let k = s .pre .0 in
-    let room : s .args .counter + 1 ≤ maxTerms = subst (λ (x : Bool). counted x (s .args .counter) ≤ maxTerms) (c .before .before .if1 .taken) (s .pre .1) in
-    record { kept = kept-mono (k .room) (omega arith) k; term = omega arith; payload = omega arith; free = held-free (s .args .counter) k (le-refl (s .args .counter)) }
+    let room : s .args .counter + 1 ≤ maxTerms = subst (λ (x : Bool). counterAfter x (s .args .counter) ≤ maxTerms) (c .before .before .if1 .taken) (s .pre .1) in
+    record { kept = kept-mono (k .room) (omega arith) k; term = omega arith; «data» = omega arith; free = held-free (s .args .counter) k (le-refl (s .args .counter)) }
 
 same-length : tie.Need-same-length
 same-length c = search needs
@@ -36,7 +36,7 @@ returns c =
     let s = c .before .before .before .before .before .before .before in
     let a = s .args in
     let is-true = c .before .before .before .before .before .if1 .taken in
-    let room : a .counter + 1 ≤ maxTerms = subst (λ (x : Bool). counted x (a .counter) ≤ maxTerms) is-true (s .pre .1) in
+    let room : a .counter + 1 ≤ maxTerms = subst (λ (x : Bool). counterAfter x (a .counter) ≤ maxTerms) is-true (s .pre .1) in
     let held = c .before .before .hold .ensures in
     rw is-true
     (record {

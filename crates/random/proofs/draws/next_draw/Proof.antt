@@ -3,7 +3,7 @@ use mathlib.Core.Path.{_≡_, sym, subst, _∙_}
 use mathlib.Core.Logic.{⊎-elim}
 use native.Mathlib.Omega.{arith}
 use borrow.Author.Needs.{needs}
-use Rattle.random.specs.Draws.{Keyed, Holds, Before}
+use Rattle.random.specs.Draws.{blockDraws, Keyed, HasBlock, DrawNext}
 use Rattle.random.proofs.Stream.{draw-in-hand}
 use Rattle.random.proofs.draws.next_draw.Statement.{statement}
 use Rattle.random.proofs.draws.next_draw.Tie as tie
@@ -43,7 +43,7 @@ pair-requires c κs = search needs
 
 -- whether or not the block had to be computed, it is in hand
 in-hand : (c : tie.Joined1) → let a = c .before .args in
-    (seed : ℕ) → Before seed (a .k) (a .stream .now) → Keyed seed (c .if1 .stream) × Holds seed (a .k / 8) (c .if1 .stream)
+    (seed : ℕ) → DrawNext seed (a .k) (a .stream .now) → Keyed seed (c .if1 .stream) × HasBlock seed (a .k / blockDraws) (c .if1 .stream)
 in-hand c seed b =
     ⊎-elim (λ w. rw (w .3) (w .2 .ensures seed (b .key))) (λ w. rw (w .1) (b .key, b .hand (w .0 .left))) (c .if1 .came)
 
@@ -53,13 +53,15 @@ returns c seed b =
     let w = c .before .before .before .if1 .stream in
     let h = in-hand (c .before .before .before) seed b in (
       c .pair .ensures ∙ sym (draw-in-hand seed k w (h .1)),
-      record { key = h .0; hand = λ no. let same : k / 8 ≡ (k + 1) / 8 = omega (arith, no) in subst (λ (m : ℕ). Holds seed m w) same (h .1) },
+      record { key = h .0; hand = λ no. let same : k / blockDraws ≡ (k + 1) / blockDraws = omega (arith, no) in subst (λ (m : ℕ). HasBlock seed m w) same (h .1) },
     )
 
 pub next-draw-spec : {M : Type 1} → statement M
 next-draw-spec =
     tie.close
     (tie.spec
+    (λ c. search needs)
+    (λ c. search needs)
     fill-requires
     mul-pair
     add-pair

@@ -1,63 +1,66 @@
-use Prim.Native.Nat.{ℕ, _+_, _*_, _-_}
-use mathlib.Core.Path.{sym, ap, _∙_}
+use Prim.Native.Nat.{ℕ, _+_, _*_, _-_, _≤_}
+use mathlib.Core.List.{List}
+use mathlib.Core.Path.{_≡_, refl, ap, ap₂, _∙_}
 use native.Mathlib.Omega.{arith}
-use denote.Ref.{now}
-use lib.ListN.{getD}
-use lib.Seq.{sets}
+use lib.ListN.{length}
+use lib.Seq.{sets, length-sets}
 use Rattle.config.specs.Limits.{recordSize}
 use Rattle.random.specs.Table.{tabulate}
-use Rattle.random.proofs.Tables.{length-tabulate, getD-tabulate}
-use Rattle.pipeline.specs.View.{recordsPlace}
-use Rattle.sim.proofs.Copies.{Copied, copied-none, copied-more, copied-all, copied-length, numbers-are}
+use Rattle.pipeline.specs.Round.{Record, recordTriple}
+use Rattle.pipeline.specs.View.{recordsOf}
+use Rattle.rules.specs.Entries.{recordNumbers}
+use Rattle.sim.proofs.Copies.{numbers-more}
 use Rattle.sim.proofs.buffers.write_records.Statement.{statement}
 use Rattle.sim.proofs.buffers.write_records.Tie as tie
 
+-- the first k records are written
 abbrev Inv-loop : tie.InvT-loop
-Inv-loop history count out₀ n k₀ out k = Copied (tabulate n (λ (m : ℕ). getD history (recordsPlace + m) 0)) out₀ 0 n out k
+Inv-loop history count out₀ n k₀ out k = (k ≤ n) × (out ≡ sets out₀ 0 (recordNumbers (recordsOf k history)))
 
 abbrev μ-loop : tie.MeasureT-loop
 μ-loop history count out₀ n k₀ out k = n - k
 
-mul-n : tie.Need-mul-n Inv-loop μ-loop
-mul-n c = omega (arith, c .pre .0)
+abbrev start : tie.At-loop Inv-loop μ-loop → tie.Start Inv-loop μ-loop
+start c = c .before .before
+
+-- what is written so far is as long as the buffer
+long : (c : tie.At-loop Inv-loop μ-loop) → length (c .loop .out) ≡ length (start c .args .out .now)
+long c = ap length (c .loop .inv .1) ∙ length-sets (start c .args .out .now) 0 (recordNumbers (recordsOf (c .loop .k) (start c .args .history .now)))
 
 loop-holds : tie.Need-loop-holds Inv-loop μ-loop
-loop-holds c = copied-none _ _ _ _
+unfolding recordsOf recordNumbers tabulate
+loop-holds c = (omega arith, refl)
 
-add-out : tie.Need-add-out Inv-loop μ-loop
-add-out c = omega (arith, c .before .before .pre .0)
+mul-put-record : tie.Need-mul-put-record Inv-loop μ-loop
+mul-put-record c = omega (arith, start (c .before .before) .pre .0)
 
-mul-out : tie.Need-mul-out Inv-loop μ-loop
-mul-out c = omega (arith, c .before .before .pre .0)
+record-at-requires : tie.Need-record-at-requires Inv-loop μ-loop
+record-at-requires c κs = omega (arith, start (c .before .before) .pre .0)
 
-element-copy-out-out : tie.Need-element-copy-out-out Inv-loop μ-loop
-element-copy-out-out c = omega (arith, c .before .before .pre .0)
-
-mul-out-2 : tie.Need-mul-out-2 Inv-loop μ-loop
-mul-out-2 c = omega (arith, c .before .before .before .pre .0)
-
-slice-write-out : tie.Need-slice-write-out Inv-loop μ-loop
-slice-write-out c = omega (arith, c .before .before .before .pre .1, copied-length (c .before .before .loop .inv))
-
-add-k : tie.Need-add-k Inv-loop μ-loop
-add-k c = omega (arith, c .before .before .before .pre .0)
-
-loop-less : tie.Need-loop-less Inv-loop μ-loop
-loop-less c = omega arith
+put-record-requires : tie.Need-put-record-requires Inv-loop μ-loop
+put-record-requires c κs = let at = c .before .before .before in omega (arith, start at .pre .1, long at)
 
 loop-again : tie.Need-loop-again Inv-loop μ-loop
 loop-again c =
-    let a = c .before .before .before .args in
-    let l = c .before .before .loop in
-    copied-more (l .inv) (omega arith) (omega (arith, length-tabulate (recordSize * a .count) (λ (m : ℕ). getD (a .history .now) (recordsPlace + m) 0))) (omega arith) (sym (getD-tabulate (recordSize * a .count) (λ (m : ℕ). getD (a .history .now) (recordsPlace + m) 0) (l .k) 0 (omega arith)))
+    let put = c .before .before in
+    let at = put .before .before .before .before in
+    let l = at .loop in
+    let a = start at .args in (
+      omega arith,
+      put .put-record .ensures
+          ∙ ap₂ (λ (x : List ℕ) (r : Record). sets x (recordSize * l .k) (recordTriple r)) (l .inv .1) (put .before .record-at .ensures)
+          ∙ numbers-more (a .history .now) (a .out .now) (l .k),
+    )
 
 same-length : tie.Need-same-length Inv-loop μ-loop
-same-length c = copied-length (c .before .loop .inv)
+same-length c = long (c .before)
 
 returns : tie.Need-returns Inv-loop μ-loop
 returns c =
-    let a = c .before .before .args in
-    copied-all (c .before .loop .inv) (omega arith) (sym (length-tabulate _ _)) ∙ ap (sets (now (a .out)) 0) (sym (numbers-are (now (a .history)) (a .count)))
+    let l = c .before .loop in
+    let a = start (c .before) .args in
+    let all : l .k ≡ a .count = omega arith in
+    l .inv .1 ∙ ap (λ (k : ℕ). sets (a .out .now) 0 (recordNumbers (recordsOf k (a .history .now)))) all
 
 pub write-records-spec : {M : Type 1} → statement M
 write-records-spec =
@@ -65,15 +68,12 @@ write-records-spec =
     (tie.spec
     Inv-loop
     μ-loop
-    mul-n
     loop-holds
-    add-out
-    mul-out
-    element-copy-out-out
-    mul-out-2
-    slice-write-out
-    add-k
-    loop-less
+    mul-put-record
+    record-at-requires
+    put-record-requires
+    (λ c. omega arith)
+    (λ c. omega arith)
     loop-again
     same-length
     returns)

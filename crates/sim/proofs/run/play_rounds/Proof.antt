@@ -74,7 +74,7 @@ survey-requires c κs =
 end-after-requires : tie.Need-end-after-requires Inv-loop μ-loop
 end-after-requires c κs =
     let ok = start (looped (limited (c .before .before .before .before .before .before .before))) .pre .begins .accepted in
-    (ok .proposals, omega (arith, ok .short))
+    (ok .proposals, omega (arith, ok .diameter-low))
 
 add-k : tie.Need-add-k Inv-loop μ-loop
 add-k c =
