@@ -11,14 +11,13 @@ use Rattle.network.specs.Topology.{builtRows}
 use Rattle.network.specs.Distance.{measured}
 use Rattle.network.specs.declared.topology.Built.{Built}
 use Rattle.network.specs.declared.distance.Measured.{Measured}
-use Rattle.config.specs.declared.Config.{Config}
 use Rattle.rules.specs.declared.answer.Answer.{Answer}
 use Rattle.metrics.specs.declared.ratios.Ratio.{Ratio}
 use Rattle.metrics.specs.declared.summary.Summary.{Summary}
-use Rattle.rules.specs.Entries.{runOfRows, runOfTopology}
+use Rattle.rules.specs.Entries.{Outcome}
 use Rattle.rules.specs.Answers.{outcome}
 use Rattle.metrics.specs.Ratio.{ratioOf}
-use Rattle.capi.specs.Capi.{short, summarySize, builtResult, returnedRows, measuredResult, returnedDiameter, ratioResult, returnedRatio, summaryNumbers, summaryAt, returnedOf, resultOf, withSummary, returned, returnedOutcome, returnedTopology, returnedRun}
+use Rattle.capi.specs.Capi.{short, summarySize, builtResult, returnedRows, measuredResult, returnedDiameter, ratioResult, returnedRatio, summaryNumbers, summaryAt, returnedOf, resultOf, withSummary, returned, returnedOutcome, returnedRun}
 
 module _ (topology first second : ℕ) (out nodes : List ℕ) where
   pub rows-short : length nodes < 1 → _≡_ {A = ℕ × List ℕ × List ℕ} (short, out, nodes) (returnedRows topology first second out nodes)
@@ -67,31 +66,15 @@ convert : (k : ℕ) (s : List ℕ) (a : Answer) (l r p summary : List ℕ) → _
     returned k s l r p ≡ returnedOutcome summary (outcome a l r p)
 convert k s a l r p summary e = ap (λ (x : ℕ × List ℕ). returned (x .0) (x .1) l r p) e
 
-module _ (topology first second : ℕ) (c : Config) (summary logs records snapshots : List ℕ) where
-  pub topology-short : length summary < summarySize → returned short summary logs records snapshots ≡ returnedTopology topology first second c summary logs records snapshots
-  unfolding returnedTopology
-  topology-short h = rw (lt-leb _ _ h)
-
-  pub topology-returned : summarySize ≤ length summary → (k : ℕ) (s : List ℕ) (c' : Config) (a : Answer) (l r p : List ℕ) → _≡_ {A = ℕ × List ℕ} (k, s) (resultOf a, withSummary a summary) →
-      c' ≡ c → outcome a l r p ≡ runOfTopology topology first second c' logs records snapshots →
-      returned k s l r p ≡ returnedTopology topology first second c summary logs records snapshots
-  unfolding returnedTopology
-  topology-returned h k s c' a l r p written configured e =
-      rw (le-leb _ _ h)
-      (convert k s a l r p summary written ∙ ap (returnedOutcome summary) (e ∙ ap (λ (x : Config). runOfTopology topology first second x logs records snapshots) configured))
-
-module _ (rows : List ℕ) (n : ℕ) (c : Config) (summary logs records snapshots : List ℕ) where
-  pub run-short : length summary < summarySize → returned short summary logs records snapshots ≡ returnedRun rows n c summary logs records snapshots
+module _ (o : Outcome) (summary logs records snapshots : List ℕ) where
+  pub run-short : length summary < summarySize → returned short summary logs records snapshots ≡ returnedRun o summary logs records snapshots
   unfolding returnedRun
   run-short h = rw (lt-leb _ _ h)
 
-  pub run-returned : summarySize ≤ length summary → (k : ℕ) (s : List ℕ) (c' : Config) (a : Answer) (l r p : List ℕ) → _≡_ {A = ℕ × List ℕ} (k, s) (resultOf a, withSummary a summary) →
-      c' ≡ c → outcome a l r p ≡ runOfRows rows n c' logs records snapshots →
-      returned k s l r p ≡ returnedRun rows n c summary logs records snapshots
+  pub run-returned : summarySize ≤ length summary → (k : ℕ) (s : List ℕ) (a : Answer) (l r p : List ℕ) → _≡_ {A = ℕ × List ℕ} (k, s) (resultOf a, withSummary a summary) →
+      outcome a l r p ≡ o → returned k s l r p ≡ returnedRun o summary logs records snapshots
   unfolding returnedRun
-  run-returned h k s c' a l r p written configured e =
-      rw (le-leb _ _ h)
-      (convert k s a l r p summary written ∙ ap (returnedOutcome summary) (e ∙ ap (λ (x : Config). runOfRows rows n x logs records snapshots) configured))
+  run-returned h k s a l r p written e = rw (le-leb _ _ h) (convert k s a l r p summary written ∙ ap (returnedOutcome summary) e)
 
 -- a summary is read as it was written, whatever follows it
 pub summary-back : (s : Summary) (l : List ℕ) → summaryAt (summaryNumbers s ++ l) ≡ s

@@ -148,11 +148,15 @@ returned k s l r p = record { result = k; summary = s; logs = l; records = r; sn
 abbrev pub returnedOutcome : List ℕ → Outcome → Returned
 returnedOutcome summary o = returned (resultOf (o .answer)) (withSummary (o .answer) summary) (o .logs) (o .records) (o .snapshots)
 
--- run of a topology, and run of rows
-unfoldable pub returnedTopology : ℕ → ℕ → ℕ → Config → List ℕ → List ℕ → List ℕ → List ℕ → Returned
-returnedTopology topology first second c summary logs records snapshots =
-    cond (leb summarySize (length summary)) (returnedOutcome summary (runOfTopology topology first second c logs records snapshots)) (returned short summary logs records snapshots)
+-- what a run with this outcome returns
+unfoldable pub returnedRun : Outcome → List ℕ → List ℕ → List ℕ → List ℕ → Returned
+returnedRun o summary logs records snapshots =
+    cond (leb summarySize (length summary)) (returnedOutcome summary o) (returned short summary logs records snapshots)
 
-unfoldable pub returnedRun : List ℕ → ℕ → Config → List ℕ → List ℕ → List ℕ → List ℕ → Returned
-returnedRun rows n c summary logs records snapshots =
-    cond (leb summarySize (length summary)) (returnedOutcome summary (runOfRows rows n c logs records snapshots)) (returned short summary logs records snapshots)
+-- run of a topology, and run of rows
+abbrev pub returnedRunOfTopology : ℕ → ℕ → ℕ → Config → List ℕ → List ℕ → List ℕ → List ℕ → Returned
+returnedRunOfTopology topology first second c summary logs records snapshots =
+    returnedRun (runOfTopology topology first second c logs records snapshots) summary logs records snapshots
+
+abbrev pub returnedRunOfRows : List ℕ → ℕ → Config → List ℕ → List ℕ → List ℕ → List ℕ → Returned
+returnedRunOfRows rows n c summary logs records snapshots = returnedRun (runOfRows rows n c logs records snapshots) summary logs records snapshots

@@ -24,7 +24,7 @@ ghost use lib.Ieee.{Float};
 ghost use lib.ListN.{length};
 ghost use Rattle.random.specs.Draws.{draw};
 ghost use Rattle.random.specs.Table.{tabulate};
-ghost use Rattle.capi.specs.Capi.{returnedRows, returnedDiameter, returnedRatio, linkPdr, floodCoverage, returnedOf, configFrom, returned, returnedTopology, returnedRun};
+ghost use Rattle.capi.specs.Capi.{returnedRows, returnedDiameter, returnedRatio, linkPdr, floodCoverage, returnedOf, configFrom, returned, returnedRunOfTopology, returnedRunOfRows};
 
 // What only these entries return: a slice for results is too short.
 const SHORT: u64 = 100;
@@ -144,7 +144,7 @@ pub extern "C" fn ctsim_run_topology(
 ) -> u64
     ensures { λ r. ⌜
         returned r (now (summary .exit)) (now (logs .exit)) (now (records .exit)) (now (snapshots .exit))
-        ≡ returnedTopology topology first second (configFrom repeats «round_slots_given» «round_slots» loss seed proposals interval limit)
+        ≡ returnedRunOfTopology topology first second (configFrom repeats «round_slots_given» «round_slots» loss seed proposals interval limit)
         (now (summary .entry)) (now (logs .entry)) (now (records .entry)) (now (snapshots .entry))
         ⌝ }
 {
@@ -185,7 +185,7 @@ pub extern "C" fn ctsim_run_rows(
 ) -> u64
     ensures { λ r. ⌜
         returned r (now (summary .exit)) (now (logs .exit)) (now (records .exit)) (now (snapshots .exit))
-        ≡ returnedRun (now (rows .entry)) n (configFrom repeats «round_slots_given» «round_slots» loss seed proposals interval limit)
+        ≡ returnedRunOfRows (now (rows .entry)) n (configFrom repeats «round_slots_given» «round_slots» loss seed proposals interval limit)
         (now (summary .entry)) (now (logs .entry)) (now (records .entry)) (now (snapshots .entry))
         ⌝ }
 {

@@ -1,7 +1,7 @@
 // What a run is asked to do, after ctsim's config.rs, and the limits of what may be asked.
 pub mod limits;
 
-// The configured length of a round, or none.
+// The configured length limit of a round, or none.
 pub enum RoundSlots {
     Absent,
     Of(u64),

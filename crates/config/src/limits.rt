@@ -1,5 +1,5 @@
-// The limits of the rules (rule 1.6) and the layouts of the lent buffers (rules 7.1 to 7.3), each by
-// its name.
+// Limits of rule 1.6 and layouts of the lent buffers (rules 7.1 to 7.3) that several crates go by, each
+// by its name.
 
 // How many bits a set has: how many nodes or terms it can tell apart.
 pub const SET_BITS: usize = 64;

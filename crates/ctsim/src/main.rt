@@ -10,7 +10,7 @@ ghost use Rattle.ctsim.specs.Input.{bytesOf};
 
 // How much is read. A readable line is far shorter, so a line that is longer is unreadable whatever
 // follows.
-const INPUT: usize = 4096;
+const INPUT_SIZE: usize = 4096;
 
 // What was read: so many bytes, or that a read failed.
 enum Input {
@@ -56,7 +56,7 @@ fn complain(what: &[u8]) {
 }
 
 fn main() {
-    let mut input = [0u8; INPUT];
+    let mut input = [0u8; INPUT_SIZE];
     let Input::Bytes(n) = read_input(&mut input) else {
         complain(b"ctsim: standard input could not be read\n");
         return;

@@ -9,8 +9,8 @@ use lib.ListN.{length, getD}
 use Rattle.line.specs.Numeral.{decimal, hexadecimal}
 use Rattle.config.specs.declared.RoundSlots.{RoundSlots}
 use Rattle.config.specs.declared.RoundSlots.the-variants.{Absent, Of}
-use Rattle.line.specs.declared.read.Slots.{Slots}
-use Rattle.line.specs.declared.read.Slots.the-variants.{Of as Slots·Of, Unreadable as Slots·Unreadable}
+use Rattle.line.specs.declared.read.SlotsField.{SlotsField}
+use Rattle.line.specs.declared.read.SlotsField.the-variants.{Of as SlotsField·Of, Unreadable as SlotsField·Unreadable}
 use Rattle.line.specs.declared.read.Four.{Four}
 use Rattle.line.specs.declared.read.Four.the-variants.{Of as Four·Of, Unreadable as Four·Unreadable}
 use Rattle.line.specs.declared.read.Read.{Read}
@@ -96,9 +96,9 @@ unfoldable pub readLine : List ℕ → Read
 readLine input = let fs = fields (bytesBefore newline input) in cond (eqb (length fs) lineFields) (readFields fs) Unreadable
 
 -- what the reader of the round slots answers
-abbrev pub slotsOf : Slots → Option RoundSlots
-slotsOf (Slots·Of s) = some s
-slotsOf Slots·Unreadable = none
+abbrev pub slotsOf : SlotsField → Option RoundSlots
+slotsOf (SlotsField·Of s) = some s
+slotsOf SlotsField·Unreadable = none
 
 -- what is made of the answer of the reader of four decimals
 abbrev pub fourOf : Four → (ℕ → ℕ → ℕ → ℕ → Read) → Read

@@ -34,7 +34,7 @@ pub enum Read {
 }
 
 // What the field of the round slots stands for.
-enum Slots {
+enum SlotsField {
     Of(RoundSlots),
     Unreadable,
 }
@@ -131,19 +131,19 @@ fn is_dash(text: &[u8]) -> bool
 }
 
 // The round slots: `-` where they are absent, else a decimal.
-fn round_slots(text: &[u8]) -> Slots
+fn round_slots(text: &[u8]) -> SlotsField
     ensures { λ r. ⌜ slotsOf r ≡ roundSlots (now (text .entry)) ⌝ }
 {
     if is_dash(text) {
-        return Slots::Of(RoundSlots::Absent);
+        return SlotsField::Of(RoundSlots::Absent);
     }
     match decimal(text) {
-        Number::Of(n) => Slots::Of(RoundSlots::Of(n)),
-        Number::Unreadable => Slots::Unreadable,
+        Number::Of(n) => SlotsField::Of(RoundSlots::Of(n)),
+        Number::Unreadable => SlotsField::Unreadable,
     }
 }
 
-fn round_slots_field(line: &[u8], k: usize) -> Slots
+fn round_slots_field(line: &[u8], k: usize) -> SlotsField
     ensures { λ r. ⌜ slotsOf r ≡ roundSlots (getD (fields (now (line .entry))) k []) ⌝ }
 {
     round_slots(field(line, k))
@@ -176,7 +176,7 @@ fn read_fields(line: &[u8]) -> Read
     let Four::Of(topology, first, second, repeats) = four_decimals(line, 0) else {
         return Read::Unreadable;
     };
-    let Slots::Of(round_slots) = round_slots_field(line, 4) else {
+    let SlotsField::Of(round_slots) = round_slots_field(line, 4) else {
         return Read::Unreadable;
     };
     let Number::Of(loss) = loss_field(line, 5) else {

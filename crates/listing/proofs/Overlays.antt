@@ -1,14 +1,14 @@
 -- Texts laid behind each other. Assumes nothing.
 use Prim.Native.Nat.{ℕ, suc, _+_, _*_, _/_, _%_, _^_, _≤_, _<_}
-use mathlib.Core.Path.{_≡_, refl, sym, ap, _∙_}
+use mathlib.Core.Path.{_≡_, refl, sym, ap, subst, _∙_}
 use mathlib.Core.List.{List, [], _∷_, _++_}
-use native.Mathlib.Nat.{mul-suc, zero-add, le-antisymm}
+use native.Mathlib.Nat.{mul-suc, mul-comm, mul-le-mul-left, zero-add, le-antisymm}
 use native.Mathlib.Numerals.{add-one}
 use native.Mathlib.Omega.{arith}
 use lib.ListN.{length, getD, take, set, length-append}
 use lib.Seq.{sets, length-sets, take-suc}
 use Rattle.listing.specs.Listing.{each, spelled, numberMost}
-use Rattle.listing.specs.Overlay.{Laid, Written}
+use Rattle.listing.specs.Overlay.{Laid, Room, Written}
 use Rattle.listing.proofs.Spelling.{spelled-low, spelled-high, spelled-short}
 
 sets-append : (l : List ℕ) (i : ℕ) (s t : List ℕ) → sets l i (s ++ t) ≡ sets (sets l i s) (i + length s) t
@@ -82,5 +82,15 @@ module _ {f : ℕ → List ℕ} {m n : ℕ} {l : List ℕ} {at : ℕ} where
     unfolding each
     each-more h b = record { inside = omega arith; laid = rw (add-one i, mul-suc) (t .laid then b) }
 
-    pub each-all : {most : ℕ} → n ≤ i → m * n ≤ most → Laid most l at (each f n) l′ at′
-    each-all h b = within (rw (le-antisymm (t .inside) h) at (t .laid)) b
+    -- where there is room for the most texts, there is room for the next
+    pub each-room : {most : ℕ} → i < n → n ≤ most → Room at (most * m) → Room at′ m
+    each-room {most} h b r =
+        let far : m * (i + 1) ≤ m * most = mul-le-mul-left m (omega arith) in
+        omega (arith, reach (t .laid), mul-suc m i, add-one i, far, mul-comm m most, r)
+
+    pub each-all : {most : ℕ} → n ≤ i → n ≤ most → Laid (most * m) l at (each f n) l′ at′
+    each-all {most} h b = within (rw (le-antisymm (t .inside) h) at (t .laid)) (omega (arith, mul-le-mul-left m b, mul-comm m most))
+
+-- as many texts, by another number
+pub each-as : (f : ℕ → List ℕ) {m n k : ℕ} {l l′ : List ℕ} {at at′ : ℕ} → Laid m l at (each f n) l′ at′ → n ≡ k → Laid m l at (each f k) l′ at′
+each-as f {m} {n} {k} {l} {l′} {at} {at′} a e = subst (λ (x : ℕ). Laid m l at (each f x) l′ at′) e a

@@ -8,6 +8,7 @@ use lib.ListN.{length, getD}
 use Rattle.config.specs.Limits.{maxNodes, maxTerms, maxListed, recordSize, snapshotSize, logCounts}
 use Rattle.listing.specs.Ascii.{ascii}
 use Rattle.metrics.specs.declared.summary.Summary.{Summary}
+use Rattle.listing.specs.declared.write.Lines.{Lines}
 
 -- the last `most` decimal digits of n, all of them if there are no more
 unfoldable pub spelledIn : ℕ → ℕ → List ℕ
@@ -64,6 +65,18 @@ termText logs i k = labelled " " (getD logs (maxTerms * i + k) 0)
 unfoldable pub logLine : List ℕ → ℕ → List ℕ
 logLine logs i = labelled "log " i ++ each (termText logs i) (min (getD logs (logCounts + i) 0) maxTerms) ++ ascii "\n"
 
+-- line i of a list: of the records, of the snapshots or of the logs
+abbrev pub lineOf : Lines → List ℕ → List ℕ → List ℕ → ℕ → List ℕ
+lineOf Lines.Proposals records snapshots logs = proposalLine records
+lineOf Lines.Snapshots records snapshots logs = snapshotLine snapshots
+lineOf Lines.Logs records snapshots logs = logLine logs
+
+-- how many lines of it are listed at most
+abbrev pub mostLines : Lines → ℕ
+mostLines Lines.Proposals = maxTerms
+mostLines Lines.Snapshots = maxListed
+mostLines Lines.Logs = maxNodes
+
 -- The listing: three lines of totals, the records, the stored snapshots and the logs. At most 64 records and 32 logs of 64 terms are
 -- listed, as many as a run can have, and the first 1,000 snapshots. A snapshot is stored where it fits whole. A place past a buffer's end reads as 0.
 unfoldable pub listing : Summary → List ℕ → List ℕ → List ℕ → List ℕ
@@ -74,8 +87,8 @@ listing s records snapshots logs =
     ++ each (logLine logs) (min (s .nodes) maxNodes)
 
 -- the refusal of a number
-unfoldable pub refusal : ℕ → List ℕ
-refusal n = labelled "refused " n ++ ascii "\n"
+unfoldable pub refusalText : ℕ → List ℕ
+refusalText n = labelled "refused " n ++ ascii "\n"
 
 -- How many bytes each part of a listing has at most: a number below 2^64 has at most 20 digits, and a word of the listing at
 -- most 10 bytes; the bounds of the lines follow.
@@ -112,6 +125,12 @@ termMost = spacedMost
 
 abbrev pub logLineMost : ℕ
 logLineMost = labelledMost + maxTerms * termMost + 1
+
+-- a line of a list
+abbrev pub lineMost : Lines → ℕ
+lineMost Lines.Proposals = proposalLineMost
+lineMost Lines.Snapshots = snapshotLineMost
+lineMost Lines.Logs = logLineMost
 
 abbrev pub listingMost : ℕ
 listingMost = runLineMost + radioLineMost + linkLineMost + maxTerms * proposalLineMost + maxListed * snapshotLineMost + maxNodes * logLineMost

@@ -4,8 +4,8 @@ ghost use Prim.Native.Nat.{_*_, _-_, _≤_, _<_, min};
 ghost use lib.ListN.{getD};
 ghost use Rattle.config.specs.Limits.{maxListed, maxNodes, maxTerms};
 ghost use Rattle.listing.specs.Overlay.{Laid, Room, Written};
-ghost use Rattle.listing.specs.Listing.{each, linkLine, listing, logLine, proposalLine, radioLine, refusal, runLine, snapshotLine, termText};
-ghost use Rattle.listing.specs.Listing.{linkLineMost, listingMost, logLineMost, proposalLineMost, radioLineMost, refusalMost, runLineMost, snapshotLineMost, termMost};
+ghost use Rattle.listing.specs.Listing.{each, lineOf, linkLine, listing, logLine, proposalLine, radioLine, refusalText, runLine, snapshotLine, termText};
+ghost use Rattle.listing.specs.Listing.{lineMost, linkLineMost, listingMost, logLineMost, proposalLineMost, radioLineMost, mostLines, refusalMost, runLineMost, snapshotLineMost, termMost};
 use super::overlay::put;
 use super::overlay::put_labelled;
 use super::overlay::put_spaced;
@@ -19,6 +19,13 @@ use metrics::summary::Summary;
 
 // No listing has more bytes: `listingMost` adds them up.
 pub const LISTING_SIZE: usize = 165403;
+
+// The lists of the listing, which have a line an item.
+enum Lines {
+    Proposals,
+    Snapshots,
+    Logs,
+}
 
 // The number at a place of a buffer, 0 past its end.
 fn number_at(s: &[u64], i: usize) -> u64
@@ -84,7 +91,7 @@ fn put_link_line(s: Summary, out: &mut [u8], at: usize) -> usize
 }
 
 // Record i.
-fn put_record(records: &[u64], i: usize, out: &mut [u8], at: usize) -> usize
+fn put_proposal_line(records: &[u64], i: usize, out: &mut [u8], at: usize) -> usize
     requires { ⌜ (i < maxTerms) × Room at proposalLineMost ⌝ }
     ensures { λ r. ⌜ Laid proposalLineMost (now (out .entry)) at (proposalLine (now (records .entry)) i) (now (out .exit)) r ⌝ }
 {
@@ -98,20 +105,8 @@ fn put_record(records: &[u64], i: usize, out: &mut [u8], at: usize) -> usize
     put(b'\n', out, d)
 }
 
-// The first n records.
-fn put_records(n: u64, records: &[u64], out: &mut [u8], at: usize) -> usize
-    requires { ⌜ (n ≤ maxTerms) × Room at (maxTerms * proposalLineMost) ⌝ }
-    ensures { λ r. ⌜ Laid (maxTerms * proposalLineMost) (now (out .entry)) at (each (proposalLine (now (records .entry))) n) (now (out .exit)) r ⌝ }
-{
-    let mut next = at;
-    for i in 0..n as usize {
-        next = put_record(records, i, out, next);
-    }
-    next
-}
-
 // Snapshot i.
-fn put_snapshot(snapshots: &[u64], i: usize, out: &mut [u8], at: usize) -> usize
+fn put_snapshot_line(snapshots: &[u64], i: usize, out: &mut [u8], at: usize) -> usize
     requires { ⌜ (i < maxListed) × Room at snapshotLineMost ⌝ }
     ensures { λ r. ⌜ Laid snapshotLineMost (now (out .entry)) at (snapshotLine (now (snapshots .entry)) i) (now (out .exit)) r ⌝ }
 {
@@ -126,18 +121,6 @@ fn put_snapshot(snapshots: &[u64], i: usize, out: &mut [u8], at: usize) -> usize
     let d = put_spaced(flooding, out, c);
     let e = put_spaced(sleeping, out, d);
     put(b'\n', out, e)
-}
-
-// The first n snapshots.
-fn put_snapshots(n: u64, snapshots: &[u64], out: &mut [u8], at: usize) -> usize
-    requires { ⌜ (n ≤ maxListed) × Room at (maxListed * snapshotLineMost) ⌝ }
-    ensures { λ r. ⌜ Laid (maxListed * snapshotLineMost) (now (out .entry)) at (each (snapshotLine (now (snapshots .entry))) n) (now (out .exit)) r ⌝ }
-{
-    let mut next = at;
-    for i in 0..n as usize {
-        next = put_snapshot(snapshots, i, out, next);
-    }
-    next
 }
 
 // Term k of node i's log.
@@ -162,7 +145,7 @@ fn put_terms(n: u64, logs: &[u8], i: usize, out: &mut [u8], at: usize) -> usize
 }
 
 // Node i's log.
-fn put_log(logs: &[u8], i: usize, out: &mut [u8], at: usize) -> usize
+fn put_log_line(logs: &[u8], i: usize, out: &mut [u8], at: usize) -> usize
     requires { ⌜ (i < maxNodes) × Room at logLineMost ⌝ }
     ensures { λ r. ⌜ Laid logLineMost (now (out .entry)) at (logLine (now (logs .entry)) i) (now (out .exit)) r ⌝ }
 {
@@ -172,14 +155,44 @@ fn put_log(logs: &[u8], i: usize, out: &mut [u8], at: usize) -> usize
     put(b'\n', out, b)
 }
 
-// The logs of the first n nodes.
-fn put_logs(n: u64, logs: &[u8], out: &mut [u8], at: usize) -> usize
-    requires { ⌜ (n ≤ maxNodes) × Room at (maxNodes * logLineMost) ⌝ }
-    ensures { λ r. ⌜ Laid (maxNodes * logLineMost) (now (out .entry)) at (each (logLine (now (logs .entry))) n) (now (out .exit)) r ⌝ }
+// Line i of a list.
+fn put_line(
+    lines: Lines,
+    records: &[u64],
+    snapshots: &[u64],
+    logs: &[u8],
+    i: usize,
+    out: &mut [u8],
+    at: usize,
+) -> usize
+    requires { ⌜ (i < mostLines lines) × Room at (lineMost lines) ⌝ }
+    ensures { λ r. ⌜ Laid (lineMost lines) (now (out .entry)) at
+        (lineOf lines (now (records .entry)) (now (snapshots .entry)) (now (logs .entry)) i) (now (out .exit)) r ⌝ }
+{
+    match lines {
+        Lines::Proposals => put_proposal_line(records, i, out, at),
+        Lines::Snapshots => put_snapshot_line(snapshots, i, out, at),
+        Lines::Logs => put_log_line(logs, i, out, at),
+    }
+}
+
+// The first n lines of a list.
+fn put_lines(
+    lines: Lines,
+    n: u64,
+    records: &[u64],
+    snapshots: &[u64],
+    logs: &[u8],
+    out: &mut [u8],
+    at: usize,
+) -> usize
+    requires { ⌜ (n ≤ mostLines lines) × Room at (mostLines lines * lineMost lines) ⌝ }
+    ensures { λ r. ⌜ Laid (mostLines lines * lineMost lines) (now (out .entry)) at
+        (each (lineOf lines (now (records .entry)) (now (snapshots .entry)) (now (logs .entry))) n) (now (out .exit)) r ⌝ }
 {
     let mut next = at;
     for i in 0..n as usize {
-        next = put_log(logs, i, out, next);
+        next = put_line(lines, records, snapshots, logs, i, out, next);
     }
     next
 }
@@ -198,16 +211,18 @@ pub fn write_listing(
     let a = put_run_line(summary, out, 0);
     let b = put_radio_line(summary, out, a);
     let c = put_link_line(summary, out, b);
-    let d = put_records(smaller(summary.records, MAX_TERMS as u64), records, out, c);
+    let recorded = smaller(summary.records, MAX_TERMS as u64);
+    let d = put_lines(Lines::Proposals, recorded, records, snapshots, logs, out, c);
     let fit = (snapshots.len() / SNAPSHOT_SIZE) as u64;
     let stored = smaller(smaller(summary.snapshots, fit), MAX_LISTED as u64);
-    let e = put_snapshots(stored, snapshots, out, d);
-    put_logs(smaller(summary.nodes, MAX_NODES as u64), logs, out, e)
+    let e = put_lines(Lines::Snapshots, stored, records, snapshots, logs, out, d);
+    let nodes = smaller(summary.nodes, MAX_NODES as u64);
+    put_lines(Lines::Logs, nodes, records, snapshots, logs, out, e)
 }
 
 // Lays the refusal of a number over the start of a buffer, and answers how many bytes it has.
 pub fn write_refusal(number: u64, out: &mut [u8]) -> usize
-    ensures { λ r. ⌜ Written refusalMost (refusal number) (now (out .entry)) (now (out .exit)) r ⌝ }
+    ensures { λ r. ⌜ Written refusalMost (refusalText number) (now (out .entry)) (now (out .exit)) r ⌝ }
 {
     let next = put_labelled(b"refused ", number, out, 0);
     put(b'\n', out, next)

@@ -23,7 +23,7 @@ use Rattle.network.specs.Questions.{question4}
 use Rattle.network.proofs.Checks.{checked-question4}
 use Rattle.network.proofs.Distances.{joins, turned, distance-bound}
 
--- ---- the rules are symmetric
+-- ---- links are symmetric
 or-comm : (a b : Bool) → a || b ≡ b || a
 or-comm true true = refl
 or-comm true false = refl
@@ -79,7 +79,7 @@ links-self Ring n i = ap₂ _||_ (beside-self i) (closed (two (ltb 2 n)))
         ap (λ (b : Bool). ltb 2 n && (b || b)) q ∙ and-false (ltb 2 n)
 links-self (Tree b) n i = ap₂ _||_ (child-self b i) (child-self b i)
 
--- ---- the rows hold the rule, and pass the row check
+-- ---- the rows hold the links, and pass the row check
 getD-rows : (t : Topology) (n i : ℕ) → i < n → getD (topologyRows t n) i 0 ≡ setOf n (linkedIn t n i)
 unfolding topologyRows topologyRow
 getD-rows t n i h = getD-tabulate n (topologyRow t n) i 0 h
@@ -144,7 +144,7 @@ grid-left c n m h =
     (ap₂ _&&_ (eq-eqb (m / c) (suc m / c) (div-eq-of-lt l ∙ sym (div-eq-of-lt h)))
     (ap₂ beside (mod-eq-of-lt l) (mod-eq-of-lt h) ∙ next-beside m))
 
--- the lower node to which the rule links i
+-- a lower node to which i is linked
 parent : (t : Topology) (n i : ℕ) → Branched t → 0 < i → (j : ℕ) × (j < i) × (linkedIn t n j i ≡ true)
 parent t n zero br h = absurd (not-suc-le-zero h)
 parent FullMesh n (suc m) br h = (0, zero-lt-suc m, ap not (ne-eqb 0 (suc m) (ne-of-lt (zero-lt-suc m))))

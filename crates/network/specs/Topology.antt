@@ -38,7 +38,7 @@ linkedIn (Grid c) n i j = eqb (i / c) (j / c) && beside (i % c) (j % c) || eqb (
 linkedIn Ring n i j = beside i j || ltb 2 n && (firstAndLast n i j || firstAndLast n j i)
 linkedIn (Tree b) n i j = child b i j || child b j i
 
--- Row i of a topology: the set of the nodes that its rule links to i.
+-- Row i of a topology: the set of the nodes that are linked to i.
 unfoldable pub topologyRow : Topology → ℕ → ℕ → ℕ
 unfolding setOf
 topologyRow t n i = setOf n (linkedIn t n i)

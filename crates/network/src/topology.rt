@@ -1,4 +1,4 @@
-// The rows of a topology: the builders of network.rs.
+// The rows of a topology, after the builders of ctsim's network.rs.
 ghost use mathlib.Core.Path.{_≡_};
 ghost use mathlib.Core.List.{List, _++_};
 ghost use Prim.Native.Nat.{ℕ, _^_, _≤_, _<_};
@@ -117,7 +117,7 @@ fn copy_rows(wide: &[u64], n: usize, out: &mut [u32])
     }
 }
 
-// The rows of the topology with that number, of `build_graph`'s numbers, into the first places of `out`, which has a
+// The rows of the topology with that number, numbered as for `build_graph`, into the first places of `out`, which has a
 // place for each node (10); a refusal writes nothing.
 pub fn rows(topology: u64, first: u64, second: u64, out: &mut [u32]) -> Built
     ensures { λ r. ⌜ _≡_ {A = Built × List ℕ} (r, now (out .exit)) (builtRows topology first second (now (out .entry))) ⌝ }

@@ -11,13 +11,13 @@ use Rattle.phy.specs.declared.packet.Nack.{Nack}
 use Rattle.phy.specs.declared.packet.Data.{Data}
 use Rattle.phy.specs.declared.packet.Piggyback.{Piggyback}
 use Rattle.phy.specs.declared.packet.Packet.{Packet}
-use Rattle.phy.specs.Packets.{Part, nackPart, acceptedPart, dataPart, backPart, backData, samePart, samePacket}
+use Rattle.phy.specs.Packets.{TermPart, nackPart, acceptedPart, dataPart, backPart, backData, samePart, samePacket}
 
 -- ---- a part tells what it is a part of
-abbrev pick : {A : Type 0} → A → (Term → A) → Part → A
+abbrev pick : {A : Type 0} → A → (Term → A) → TermPart → A
 pick none some x = cond (eqb (x .present) 0) none (some (record { 0 = x .term }))
 
-by-part : {A : Type 0} (part : A → Part) (none : A) (some : Term → A) → ((a : A) → pick none some (part a) ≡ a) → (a b : A) → part a ≡ part b → a ≡ b
+by-part : {A : Type 0} (part : A → TermPart) (none : A) (some : Term → A) → ((a : A) → pick none some (part a) ≡ a) → (a b : A) → part a ≡ part b → a ≡ b
 by-part part none some back a b e = sym (back a) ∙ ap (pick none some) e ∙ back b
 
 nack-back : (a : Nack) → pick Nack.None Nack.Of (nackPart a) ≡ a
@@ -49,7 +49,7 @@ module _ (p q : Packet)
   piggyback-equal : p .piggyback ≡ q .piggyback
   piggyback-equal =
       let same = by-part dataPart Data.Empty Data.Of data-back (backData (p .piggyback)) (backData (q .piggyback)) again in
-      sym (piggyback-back (p .piggyback)) ∙ ap₂ (λ (d : Data) (x : Part). pick Piggyback.None (λ (t : Term). Piggyback.Of t d) x) same back ∙ piggyback-back (q .piggyback)
+      sym (piggyback-back (p .piggyback)) ∙ ap₂ (λ (d : Data) (x : TermPart). pick Piggyback.None (λ (t : Term). Piggyback.Of t d) x) same back ∙ piggyback-back (q .piggyback)
 
   pub packet-equal : p ≡ q
   packet-equal =
@@ -64,7 +64,7 @@ module _ (p q : Packet)
         piggyback = piggyback-equal i;
       }
 
-part-equal : (x y : Part) → samePart x y ≡ true → x ≡ y
+part-equal : (x y : TermPart) → samePart x y ≡ true → x ≡ y
 part-equal x y e = let both = and-both (eqb (x .present) (y .present)) (eqb (x .term) (y .term)) e in λ i. record { present = eqb-true (x .present) (y .present) (both .0) i; term = eqb-true (x .term) (y .term) (both .1) i }
 
 pub same-packet-equal : (p q : Packet) → samePacket p q ≡ true → p ≡ q
@@ -79,7 +79,7 @@ same-packet-equal p q e =
     let d = and-both _ _ (right .1) in
     packet-equal p q (eqb-true _ _ (a .0)) (eqb-true _ _ (a .1)) (eqb-true _ _ (b .0)) (part-equal _ _ (b .1)) (part-equal _ _ (c .0)) (part-equal _ _ (c .1)) (part-equal _ _ (d .0)) (part-equal _ _ (d .1))
 
-part-itself : (x : Part) → samePart x x ≡ true
+part-itself : (x : TermPart) → samePart x x ≡ true
 part-itself x = ap₂ _&&_ (eq-eqb (x .present) (x .present) refl) (eq-eqb (x .term) (x .term) refl)
 
 -- a packet passes the test with itself

@@ -20,7 +20,7 @@ use Rattle.phy.specs.declared.node.Node.{Node}
 use Rattle.phy.specs.declared.node.NodeState.{NodeState}
 use Rattle.phy.specs.declared.node.NodeState.the-variants.{Listen, Flood, Sleep}
 use Rattle.phy.specs.declared.packet.Packet.{Packet}
-use Rattle.phy.specs.declared.slot.Flood.{Flood as Floods}
+use Rattle.phy.specs.declared.slot.Radios.{Radios}
 use Rattle.phy.specs.declared.slot.Settings.{Settings}
 use Rattle.phy.specs.Node.{new, begunBy, deliveredTo, holding, listens, floods, sleeps, isListening, isFlooding, isSleeping}
 use Rattle.phy.specs.Slot.{Standing, at, sumOf}
@@ -54,7 +54,7 @@ took-part n first awake few =
     ∙ or-comm (not (has awake j)) (eqb j first))
 
 -- ---- a round begins
-module _ (n repeats first : ℕ) (packet : Packet) (x : Floods) (b₀ b : List ℕ) (s : Standing) (few : first < n) (some : 1 ≤ repeats) (st : Stands n x b₀ b s) where
+module _ (n repeats first : ℕ) (packet : Packet) (x : Radios) (b₀ b : List ℕ) (s : Standing) (few : first < n) (some : 1 ≤ repeats) (st : Stands n x b₀ b s) where
   abbrev nodes : List Node
   nodes = s .nodes
 
@@ -134,20 +134,20 @@ module _ (n repeats first : ℕ) (packet : Packet) (x : Floods) (b₀ b : List �
       }
 
 -- the same of what the code's begin gave
-pub opens : (g : Settings) (first : ℕ) (packet : Packet) {x y : Floods} {e₀ e e' w b₀ b : List ℕ} {s : Standing} → CanBegin g first → g .repeats ≤ length e₀
+pub opens : (g : Settings) (first : ℕ) (packet : Packet) {x y : Radios} {e₀ e e' w b₀ b : List ℕ} {s : Standing} → CanBegin g first → g .repeats ≤ length e₀
     → Emptied (g .repeats) e₀ e → Begins g first x e y e' → Stands (g .nodes) x b₀ b s
     → InSlot g 0 y (tables e' w b) b₀ (withNodes (begun (g .nodes) (g .repeats) first packet (s .nodes)) s)
 opens g first packet {x} {y} {e₀} {e} {e'} {w} {b₀} {b} {s} can room emptied begins st =
     let n = g .nodes in
     record {
-      stands = subst⁻¹ (λ (z : Floods). Stands n z b₀ b (withNodes (begun n (g .repeats) first packet (s .nodes)) s)) (begins .flood)
+      stands = subst⁻¹ (λ (z : Radios). Stands n z b₀ b (withNodes (begun n (g .repeats) first packet (s .nodes)) s)) (begins .flood)
           (begun-stands n (g .repeats) first packet x b₀ b s (can .node) (can .repeats .0) st);
       queued = subst⁻¹ (λ (m : List ℕ). Queued n (g .repeats) m 0 (begun n (g .repeats) first packet (s .nodes))) (begins .queue)
           (begun-queued n (g .repeats) first packet x b₀ b s (can .node) (can .repeats .0) st e (omega (arith, room, emptied .size)) (emptied .empty));
     }
 
 -- ---- a round ends
-module _ (n first : ℕ) (packet : Packet) (x : Floods) (b₀ b : List ℕ) (s : Standing) (st : Stands n x b₀ b s) where
+module _ (n first : ℕ) (packet : Packet) (x : Radios) (b₀ b : List ℕ) (s : Standing) (st : Stands n x b₀ b s) where
   abbrev awake : ℕ
   awake = bitOr (x .listening) (x .flooding)
 

@@ -20,12 +20,12 @@ use Rattle.phy.specs.declared.node.Node.{Node}
 use Rattle.phy.specs.declared.node.NodeState.{NodeState}
 use Rattle.phy.specs.declared.node.NodeState.the-variants.{Listen, Flood, Sleep}
 use Rattle.phy.specs.declared.slot.Awake.{Awake}
-use Rattle.phy.specs.declared.slot.Flood.{Flood as Floods}
+use Rattle.phy.specs.declared.slot.Radios.{Radios}
 use Rattle.phy.specs.declared.slot.Settings.{Settings}
 use Rattle.phy.specs.declared.slot.Tried.{Tried}
 use Rattle.phy.specs.declared.snapshot.Shown.{Shown}
 use Rattle.phy.specs.declared.snapshot.Schedule.{Schedule}
-use Rattle.phy.specs.Node.{tick, tickIn, transition, transitionIn, listens, floods, sleeps, isListening, isFlooding, isSleeping}
+use Rattle.phy.specs.Node.{tickIn, transition, transitionIn, listens, floods, sleeps, isListening, isFlooding, isSleeping}
 use Rattle.phy.specs.Slot.{Setup, Shots, Standing, at, sumOf, ticked, moved, snapshot, attemptAll, triesIn, takeWhile, slotStep}
 use Rattle.phy.specs.View.{Tables, tables, asSetup, triesOf, receiversOf, shownOf, shotOf, TakesDue, awakeAfter, Advances, placeAfter, Queued, Stands, InSlot}
 use Rattle.phy.proofs.Nodes.{onward-is, at-ticked, at-moved, total-slot, ones-setOf, three-states}
@@ -220,7 +220,7 @@ module _ (n repeats reached : ℕ) (nodes : List Node) (x : Awake) (e : List ℕ
   sleeps-now = sum-more (λ (v : Node). v .«slots_sleep») nodes afterwards (λ (j : ℕ). isSleeping (at nodes j)) n (λ j b. step j b .slots-sleep)
 
 -- ---- the sums are nodes times slots, so that one slot more has room
-module _ (n : ℕ) {x : Floods} {b₀ b : List ℕ} {s : Standing} {seen : Shown} {progress : ℕ} (few : n ≤ maxNodes) (early : x .slot .0 < countBound) (st : Stands n x b₀ b s)
+module _ (n : ℕ) {x : Radios} {b₀ b : List ℕ} {s : Standing} {seen : Shown} {progress : ℕ} (few : n ≤ maxNodes) (early : x .slot .0 < countBound) (st : Stands n x b₀ b s)
     (seen-is : seen ≡ shownOf n progress (ones (x .listening)) (ones (x .flooding))) where
   sums : x .«slots_listen» + x .«slots_flood» + x .«slots_sleep» ≡ n * x .slot .0
   sums = omega (arith, st .listens, st .floods, st .sleeps, all-slots (s .nodes) n (x .slot .0) (λ j p. st .counted j p ∙ sym (st .slot)))
@@ -240,7 +240,7 @@ module _ (n : ℕ) {x : Floods} {b₀ b : List ℕ} {s : Standing} {seen : Shown
   few-slots = (omega (arith, sums, bounded, early, shown-few .0), omega (arith, sums, bounded, early, shown-few .1), omega (arith, sums, bounded, early, shown-few .2))
 
 -- ---- a whole slot: what its parts gave leads where the definitions lead
-module _ (g : Settings) (rows : List ℕ) (heard : ℕ → Bool) (p : ℕ) (x : Floods) (t : Tables) (b₀ : List ℕ) (s : Standing) (here : InSlot g p x t b₀ s)
+module _ (g : Settings) (rows : List ℕ) (heard : ℕ → Bool) (p : ℕ) (x : Radios) (t : Tables) (b₀ : List ℕ) (s : Standing) (here : InSlot g p x t b₀ s)
     (seen : Shown) (seen-is : seen ≡ shownOf (g .nodes) (g .progress) (ones (x .listening)) (ones (x .flooding)))
     (taken : Schedule) (b' : List ℕ)
     (takes : TakesDue (g .interval) (x .slot .0) seen (record { next = record { 0 = x .«next_snapshot» .0 }; count = x .snapshots }) (t .snapshots) taken b')
@@ -311,7 +311,7 @@ module _ (g : Settings) (rows : List ℕ) (heard : ℕ → Bool) (p : ℕ) (x : 
       let f : ones (x .flooding) ≡ count n (λ (j : ℕ). isFlooding (at (s .nodes) j)) = ap ones (st .flooding) ∙ ones-setOf n _ in
       omega (arith, total, a, f, three-states n (s .nodes))
 
-  abbrev after : Floods
+  abbrev after : Radios
   after =
       record {
         listening = r .listening;

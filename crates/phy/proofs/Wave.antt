@@ -1,7 +1,7 @@
 -- A flood in which nothing is lost, seen from one node at distance d from the initiator: before slot k of the round it listens if
 -- k < d, floods with d + r - k repeats left if d ≤ k < d + r, and sleeps otherwise. Assumes nothing.
 use Prim.Native.Nat.{ℕ, suc, _+_, _-_, _≤_, _<_}
-use mathlib.Core.Path.{_≡_, refl, sym, ap, subst, _∙_}
+use mathlib.Core.Path.{_≡_, refl, sym, ap, subst}
 use mathlib.Core.Bool.{Bool, true, false, cond}
 use mathlib.Core.Logic.{⊎-elim}
 use native.Mathlib.Nat.{eq-or-lt-of-le}
@@ -10,7 +10,6 @@ use lib.Dec.{eqb}
 use borrow.Author.Tests.{eqb-true, eqb-false}
 use Rattle.network.proofs.Sets.{two, never}
 use Rattle.phy.specs.declared.node.Node.{Node}
-use Rattle.phy.specs.declared.node.NodeState.{NodeState}
 use Rattle.phy.specs.declared.node.NodeState.the-variants.{Listen, Flood, Sleep}
 use Rattle.phy.specs.Node.{inState, tick, tickIn, transition, transitionIn, listens, floods, isListening, isFlooding}
 use Rattle.phy.proofs.Nodes.{onward-is}

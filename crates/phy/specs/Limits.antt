@@ -1,4 +1,4 @@
--- The limits of a flood, and the layouts of the tables lent to it.
+-- The size of the queue that is lent to a flood, and a bound on the attempts of a slot.
 use Prim.Native.Nat.{ℕ, _*_}
 use Rattle.config.specs.Limits.{setBits, maxNodes, maxRepeats}
 

@@ -12,30 +12,30 @@ use Rattle.phy.specs.declared.node.Payload.{Payload}
 
 -- ---- parts of a packet that are none or a term: whether there is one, and the term
 
-pub record Part : Type 0 where
+pub record TermPart : Type 0 where
   pub present : ℕ
   pub term : ℕ
 
-abbrev pub nothing : Part
+abbrev pub nothing : TermPart
 nothing = record { present = 0; term = 0 }
 
-abbrev pub partOf : Term → Part
+abbrev pub partOf : Term → TermPart
 partOf t = record { present = 1; term = t .0 }
 
-abbrev pub nackPart : Nack → Part
+abbrev pub nackPart : Nack → TermPart
 nackPart Nack.None = nothing
 nackPart (Nack.Of t) = partOf t
 
-abbrev pub acceptedPart : LastAccepted → Part
+abbrev pub acceptedPart : LastAccepted → TermPart
 acceptedPart LastAccepted.None = nothing
 acceptedPart (LastAccepted.At t) = partOf t
 
-abbrev pub dataPart : Data → Part
+abbrev pub dataPart : Data → TermPart
 dataPart Data.Empty = nothing
 dataPart (Data.Of t) = partOf t
 
 -- a proposal that is sent once more: its term, and its data
-abbrev pub backPart : Piggyback → Part
+abbrev pub backPart : Piggyback → TermPart
 backPart Piggyback.None = nothing
 backPart (Piggyback.Of t d) = partOf t
 
@@ -44,7 +44,7 @@ backData Piggyback.None = Data.Empty
 backData (Piggyback.Of t d) = d
 
 -- both none, or both the same term
-abbrev pub samePart : Part → Part → Bool
+abbrev pub samePart : TermPart → TermPart → Bool
 samePart x y = eqb (x .present) (y .present) && eqb (x .term) (y .term)
 
 -- ---- whole packets

@@ -14,7 +14,7 @@ use Rattle.random.specs.Reception.{Source}
 use Rattle.phy.specs.declared.slot.Settings.{Settings}
 use Rattle.phy.specs.declared.slot.Tried.{Tried}
 use Rattle.phy.specs.declared.slot.Awake.{Awake}
-use Rattle.phy.specs.declared.slot.Flood.{Flood}
+use Rattle.phy.specs.declared.slot.Radios.{Radios}
 use Rattle.phy.specs.declared.snapshot.Shown.{Shown}
 use Rattle.phy.specs.declared.snapshot.Schedule.{Schedule}
 use Rattle.phy.specs.declared.ci.Round.{Round}
@@ -24,7 +24,7 @@ use Rattle.phy.specs.Limits.{slotAttempts}
 use Rattle.phy.specs.Node.{total, isListening, isFlooding}
 use Rattle.phy.specs.Slot.{Setup, Tries, Shots, Standing, at, sumOf, receivers, attemptAll, takeWhile, slotStep}
 use Rattle.phy.specs.Snapshots.{snapshotsWith}
-use Rattle.phy.specs.Round.{slots as roundSlots, round}
+use Rattle.phy.specs.Round.{slots as slotsOfRound, round}
 
 -- ---- the lent tables
 -- what a round is lent: the queue of the flooding nodes, the stream of the draws, and the buffer of the snapshots
@@ -117,7 +117,7 @@ pub record Queued (n repeats : ℕ) (e : List ℕ) (p : ℕ) (nodes : List Node)
   pub stand : (i j : ℕ) → i < repeats → j < n → has (getD e (placeAfter repeats p i) 0) j ≡ isFlooding (at nodes j) && eqb (at nodes j .«flood_remaining») (i + 1)
 
 -- The code stands at x, with the snapshots b, where the definitions stand at s. As the run began the buffer was b₀.
-pub record Stands (n : ℕ) (x : Flood) (b₀ b : List ℕ) (s : Standing) : Type 0 where
+pub record Stands (n : ℕ) (x : Radios) (b₀ b : List ℕ) (s : Standing) : Type 0 where
   pub listening : x .listening ≡ setOf n (λ (j : ℕ). isListening (at (s .nodes) j))
   pub flooding : x .flooding ≡ setOf n (λ (j : ℕ). isFlooding (at (s .nodes) j))
   -- the slots of all nodes in each state
@@ -132,12 +132,12 @@ pub record Stands (n : ℕ) (x : Flood) (b₀ b : List ℕ) (s : Standing) : Typ
   pub shots : Scheduled (x .«next_snapshot» .0) (x .snapshots) b₀ b (s .shots)
 
 -- so it stands in a slot, with the queue from place p on
-pub record InSlot (g : Settings) (p : ℕ) (x : Flood) (t : Tables) (b₀ : List ℕ) (s : Standing) : Type 0 where
+pub record InSlot (g : Settings) (p : ℕ) (x : Radios) (t : Tables) (b₀ : List ℕ) (s : Standing) : Type 0 where
   pub stands : Stands (g .nodes) x b₀ (t .snapshots) s
   pub queued : Queued (g .nodes) (g .repeats) (t .queue) p (s .nodes)
 
 -- the stream is a source of some receptions, and the definitions stand somewhere
-pub record Meets (g : Settings) (p : ℕ) (x : Flood) (t : Tables) : Type 0 where
+pub record Meets (g : Settings) (p : ℕ) (x : Radios) (t : Tables) : Type 0 where
   pub heard : ℕ → Bool
   pub source : Source (g .rate) heard (x .attempts) (t .stream)
   pub first : List ℕ
@@ -145,7 +145,7 @@ pub record Meets (g : Settings) (p : ℕ) (x : Flood) (t : Tables) : Type 0 wher
   pub here : InSlot g p x t first standing
 
 -- What holds between slots: the counters have room, and the snapshots taken are those at the multiples of the interval.
-pub record Sound (g : Settings) (x : Flood) : Type 0 where
+pub record Sound (g : Settings) (x : Radios) : Type 0 where
   pub few : g .nodes ≤ maxNodes
   pub repeats : (1 ≤ g .repeats) × (g .repeats ≤ maxRepeats)
   pub interval : 1 ≤ g .interval
@@ -155,7 +155,7 @@ pub record Sound (g : Settings) (x : Flood) : Type 0 where
 
 -- From x, with the queue from place p on, the code came to r in one slot, and what held between slots holds again. For all receptions that
 -- the stream is a source of, it still is one, and the code stands where the slot of the definitions leads.
-pub record Stepped (g : Settings) (rows : List ℕ) (p : ℕ) (x : Flood) (t : Tables) (r : Flood) (t' : Tables) : Type 0 where
+pub record Stepped (g : Settings) (rows : List ℕ) (p : ℕ) (x : Radios) (t : Tables) (r : Radios) (t' : Tables) : Type 0 where
   pub sound : Sound g r
   pub slots : r .slot .0 ≡ x .slot .0 + 1
   pub source : (heard : ℕ → Bool) → Source (g .rate) heard (x .attempts) (t .stream) → Source (g .rate) heard (r .attempts) (t' .stream)
@@ -164,18 +164,18 @@ pub record Stepped (g : Settings) (rows : List ℕ) (p : ℕ) (x : Flood) (t : T
       → InSlot g (placeAfter (g .repeats) p 1) r t' b₀ (slotStep (asSetup g rows heard) s)
 
 -- The same of the slots of a round, of which there are at most so many; the queue begins at place 0.
-pub record Slotted (g : Settings) (rows : List ℕ) (longest : ℕ) (x : Flood) (t : Tables) (r : Flood) (t' : Tables) : Type 0 where
+pub record Slotted (g : Settings) (rows : List ℕ) (longest : ℕ) (x : Radios) (t : Tables) (r : Radios) (t' : Tables) : Type 0 where
   pub sound : Sound g r
   pub slots : r .slot .0 ≤ x .slot .0 + longest
   pub room : g .repeats ≤ length (t' .queue)
   pub source : (heard : ℕ → Bool) → Source (g .rate) heard (x .attempts) (t .stream) → Source (g .rate) heard (r .attempts) (t' .stream)
   pub stands : (heard : ℕ → Bool) → Source (g .rate) heard (x .attempts) (t .stream)
       → (b₀ : List ℕ) (s : Standing) → InSlot g 0 x t b₀ s
-      → Stands (g .nodes) r b₀ (t' .snapshots) (roundSlots (asSetup g rows heard) longest s)
+      → Stands (g .nodes) r b₀ (t' .snapshots) (slotsOfRound (asSetup g rows heard) longest s)
 
 -- ---- a round
 -- all nodes listen but the initiator
-abbrev pub begunFlood : ℕ → ℕ → Flood → Flood
+abbrev pub begunFlood : ℕ → ℕ → Radios → Radios
 begunFlood n first x =
     record {
       listening = 2 ^ n - 1 - 2 ^ first;
@@ -190,14 +190,14 @@ begunFlood n first x =
       snapshots = x .snapshots;
     }
 
--- what a round's begin is given
+-- what beginning a round needs
 pub record CanBegin (g : Settings) (first : ℕ) : Type 0 where
   pub few : g .nodes ≤ maxNodes
   pub node : first < g .nodes
   pub repeats : (1 ≤ g .repeats) × (g .repeats ≤ maxRepeats)
 
 -- the initiator stands at the last place of the queue
-pub record Begins (g : Settings) (first : ℕ) (x : Flood) (e : List ℕ) (r : Flood) (e' : List ℕ) : Type 0 where
+pub record Begins (g : Settings) (first : ℕ) (x : Radios) (e : List ℕ) (r : Radios) (e' : List ℕ) : Type 0 where
   pub flood : r ≡ begunFlood (g .nodes) first x
   pub queue : e' ≡ set e (g .repeats - 1) (2 ^ first)
 
@@ -207,7 +207,7 @@ pub record Emptied (count : ℕ) (e e' : List ℕ) : Type 0 where
   pub empty : (i : ℕ) → i < count → getD e' i 0 ≡ 0
 
 -- what a round is given: the stream is a source of some receptions, and the definitions stand somewhere
-pub record CanFlood (g : Settings) (longest initiator : ℕ) (x : Flood) (t : Tables) : Type 0 where
+pub record CanFlood (g : Settings) (longest initiator : ℕ) (x : Radios) (t : Tables) : Type 0 where
   pub sound : Sound g x
   pub node : initiator < g .nodes
   pub early : x .slot .0 + longest < countBound
@@ -220,7 +220,7 @@ pub record CanFlood (g : Settings) (longest initiator : ℕ) (x : Flood) (t : Ta
 
 -- From x the code came to r in a round, of at most so many slots. For all receptions that the stream is a source of, it still is one, and the
 -- code stands where the round of the definitions leads, whichever packet it floods.
-pub record Rounded (g : Settings) (rows : List ℕ) (longest initiator : ℕ) (x : Flood) (t : Tables) (r : Round) (t' : Tables) : Type 0 where
+pub record Rounded (g : Settings) (rows : List ℕ) (longest initiator : ℕ) (x : Radios) (t : Tables) (r : Round) (t' : Tables) : Type 0 where
   pub sound : Sound g (r .flood)
   pub slots : r .flood .slot .0 ≤ x .slot .0 + longest
   pub room : g .repeats ≤ length (t' .queue)

@@ -1,8 +1,8 @@
 // One flood by constructive interference, after ctsim's phy/ci.rs. It goes the same way whatever its
 // packet says, so no packet is handed in; that the covered nodes are those that took part is a law of the
 // run.
-use super::slot::Flood;
 use super::slot::QUEUE_SIZE;
+use super::slot::Radios;
 use super::slot::Settings;
 use super::slot::slot;
 use config::RoundSlots;
@@ -42,7 +42,7 @@ pub fn length_limit(round_slots: RoundSlots, diameter: u64, repeats: u64) -> u64
 
 // Where a run stands after a round, and the set of the nodes that took part.
 pub struct Round {
-    pub flood: Flood,
+    pub flood: Radios,
     pub part: u64,
 }
 
@@ -51,9 +51,9 @@ pub struct Round {
 fn begin_round(
     settings: Settings,
     initiator: NodeId,
-    x: Flood,
+    x: Radios,
     queue: &mut [u64; QUEUE_SIZE],
-) -> Flood
+) -> Radios
     requires { ⌜ CanBegin settings (initiator .0) ⌝ }
     ensures { λ r. ⌜ Begins settings (initiator .0) x (now (queue .entry)) r (now (queue .exit)) ⌝ }
 {
@@ -82,11 +82,11 @@ fn slots(
     settings: Settings,
     rows: &[u64; MAX_NODES],
     longest: u64,
-    flood: Flood,
+    flood: Radios,
     queue: &mut [u64; QUEUE_SIZE],
     stream: &mut [u32; STREAM_SIZE],
     snapshots: &mut [u64],
-) -> Flood
+) -> Radios
     requires { ⌜ Sound settings flood × (flood .slot .0 + longest < countBound)
         × Meets settings 0 flood (tables (now queue) (now stream) (now snapshots)) ⌝ }
     ensures { λ r. ⌜ Slotted settings (now (rows .entry)) longest flood
@@ -132,7 +132,7 @@ pub fn flood_identical_round(
     rows: &[u64; MAX_NODES],
     longest: u64,
     initiator: NodeId,
-    flood: Flood,
+    flood: Radios,
     queue: &mut [u64; QUEUE_SIZE],
     stream: &mut [u32; STREAM_SIZE],
     snapshots: &mut [u64],

@@ -41,7 +41,7 @@ pub fn new() -> Node
     }
 }
 
-// The node at a round's begin: it listens, and keeps its packet and its counts.
+// The node as a round begins: it listens, and keeps its packet and its counts.
 pub fn reset_round(node: Node) -> Node
     ensures { λ r. ⌜ r ≡ Spec.resetRound node ⌝ }
 {

@@ -44,9 +44,9 @@ pub struct Tried {
     pub reached: u64,
 }
 
-// Where a run stands in its floods: the sets of the nodes that listen and that flood, and the slots that
-// all nodes have spent in each state. The stream of the draws stands in a lent table.
-pub struct Flood {
+// Where the radios of a run stand: the sets of the nodes that listen and that flood, and the slots that all
+// nodes have spent in each state. The stream of the draws stands in a lent table.
+pub struct Radios {
     pub listening: u64,
     pub flooding: u64,
     pub slots_listen: u64,
@@ -154,12 +154,12 @@ fn shown(n: usize, progress: u64, listening: u64, flooding: u64) -> Shown
 pub fn slot(
     settings: Settings,
     rows: &[u64; MAX_NODES],
-    x: Flood,
+    x: Radios,
     queue: &mut [u64; QUEUE_SIZE],
     place: usize,
     stream: &mut [u32; STREAM_SIZE],
     snapshots: &mut [u64],
-) -> Flood
+) -> Radios
     requires { ⌜ Sound settings x × (x .slot .0 < countBound) × Meets settings place x (tables (now queue) (now stream) (now snapshots)) ⌝ }
     ensures { λ r. ⌜ Stepped settings (now (rows .entry)) place x
         (tables (now (queue .entry)) (now (stream .entry)) (now (snapshots .entry)))
@@ -187,7 +187,7 @@ pub fn slot(
     };
     let next_snapshot = taken.next;
     let awake = advance(queue, place, before, tried.reached);
-    Flood {
+    Radios {
         listening: awake.listening,
         flooding: awake.flooding,
         slots_listen: x.slots_listen + seen.listening,

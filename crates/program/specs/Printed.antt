@@ -8,7 +8,7 @@ use Rattle.line.specs.declared.read.Read.{Read}
 use Rattle.line.specs.declared.read.Read.the-variants.{Line as Read·Line, Unreadable}
 use Rattle.line.specs.Configured.{configOf}
 use Rattle.line.specs.Line.{readLine}
-use Rattle.listing.specs.Listing.{listing, refusal}
+use Rattle.listing.specs.Listing.{listing, refusalText}
 use Rattle.rules.specs.declared.answer.Answer.{Answer}
 use Rattle.rules.specs.declared.answer.Answer.the-variants.{Ran, Refused}
 use Rattle.rules.specs.Entries.{Outcome, runOfTopology}
@@ -16,7 +16,7 @@ use Rattle.rules.specs.Entries.{Outcome, runOfTopology}
 -- `refused N`, or the listing of the run and its buffers
 abbrev pub answerText : Answer → List ℕ → List ℕ → List ℕ → List ℕ
 answerText (Ran s) logs records snapshots = listing s records snapshots logs
-answerText (Refused k) logs records snapshots = refusal k
+answerText (Refused k) logs records snapshots = refusalText k
 
 abbrev pub outcomeText : Outcome → List ℕ
 outcomeText o = answerText (o .answer) (o .logs) (o .records) (o .snapshots)
@@ -30,7 +30,7 @@ lineText l =
 -- question 12: is the line readable?
 abbrev pub readText : Read → List ℕ
 readText (Read·Line l) = lineText l
-readText Unreadable = refusal 12
+readText Unreadable = refusalText 12
 
 -- the answer to these bytes of input
 unfoldable pub printed : List ℕ → List ℕ

@@ -1,4 +1,4 @@
--- The starred runs: the values of section 14 that are proved, one table, shown from the definitions.
+-- The starred runs: the values of rule 14.2, one table, proved from the definitions.
 use Prim.Native.Nat.{ℕ, _-_, _/_, _^_, _≤_}
 use mathlib.Core.Bool.{true, false}
 use mathlib.Core.List.{List, [], _∷_}

@@ -16,7 +16,7 @@ use Rattle.phy.specs.declared.packet.LastAccepted.{LastAccepted}
 use Rattle.phy.specs.declared.packet.Piggyback.{Piggyback}
 use Rattle.phy.specs.declared.packet.Packet.{Packet}
 use Rattle.protocol.specs.declared.turns.Announced.{Announced}
-use Rattle.protocol.specs.declared.turns.Received.{Received}
+use Rattle.protocol.specs.declared.turns.Participation.{Participation}
 use Rattle.protocol.specs.Layout.{dataPlace, logPlace, pendingPlace, loggedPlace, lastPlace, nodeSize, noData}
 use Rattle.protocol.specs.Paxos.{LogEntry, Pending, State, logged, held, commitTo, newlyTo, termSet}
 use Rattle.protocol.specs.Turns.{Initiated, counterAfter, initiatorTurn, participantTurn}
@@ -146,7 +146,7 @@ pub record TermsBelow (c : ℕ) (p : Packet) : Type 0 where
 -- ---- what the turns give
 
 -- the state in b' is what f makes of that in b, and it is kept while the counter is c
-pub record Reaches (c at : ℕ) (f : State → State) (b b' : List ℕ) : Type 0 where
+pub record Becomes (c at : ℕ) (f : State → State) (b b' : List ℕ) : Type 0 where
   pub wrote : Wrote at b b'
   pub kept : Kept c b' at
   pub is : view b' at ≡ f (view b at)
@@ -175,7 +175,7 @@ pub record Initiates (at i n c : ℕ) (p : Bool) (pb : Piggyback) (b : List ℕ)
   pub below : backBelow c pb → TermsBelow (counterAfter p c) (r .packet)
 
 -- A participant's turn is that of the definitions, and its state is kept whatever the counter is that the packet's terms are below.
-pub record Takes (at i : ℕ) (p : Packet) (b : List ℕ) (r : Received) (b' : List ℕ) : Type 0 where
+pub record Takes (at i : ℕ) (p : Packet) (b : List ℕ) (r : Participation) (b' : List ℕ) : Type 0 where
   pub wrote : Wrote at b b'
   pub kept : (c : ℕ) → TermsBelow c p → Kept c b at → Kept c b' at
   pub state : view b' at ≡ participantTurn i p (view b at) .state

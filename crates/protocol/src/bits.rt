@@ -10,7 +10,7 @@ ghost use Rattle.network.specs.Graph.{setOf};
 ghost use Rattle.protocol.specs.Paxos.{union};
 
 // The union of two sets.
-pub fn joined(a: u64, b: u64) -> u64
+pub fn union_of(a: u64, b: u64) -> u64
     ensures { λ r. ⌜ r ≡ union a b ⌝ }
 {
     a | b

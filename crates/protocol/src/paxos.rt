@@ -1,6 +1,6 @@
 // What is done with a node's Paxos state, after ctsim's protocol/paxos.rs: numbers of a lent
 // slice, from the place `at` on, as state.rt says.
-use crate::bits::joined;
+use crate::bits::union_of;
 use crate::bits::up_to;
 use crate::state::DATA_PLACE;
 use crate::state::LAST_PLACE;
@@ -62,7 +62,7 @@ pub fn merge_votes_up_to(states: &mut [u64], at: usize, up_to_term: Term, bitmap
     let first = u64::trailing_zeros(rest) as usize;
     let end = MAX_TERMS - u64::leading_zeros(rest) as usize;
     for t in first..end {
-        states[at + t] = joined(states[at + t], bitmap);
+        states[at + t] = union_of(states[at + t], bitmap);
     }
 }
 
@@ -133,7 +133,8 @@ fn larger(a: u64, b: u64) -> u64
     if a < b { b } else { a }
 }
 
-// Moves a term that is not logged from pending to the log; last accepted rises to it.
+// Commits a term that is not logged: it moves from pending to the log if it is pending, and last accepted
+// rises to it either way.
 fn commit_term(states: &mut [u64], at: usize, term: Term)
     requires { ⌜ Kept maxTerms (now states) at × (term .0 < maxTerms) × (has (loggedSet (now states) at) (term .0) ≡ false) ⌝ }
     ensures { λ _. ⌜ Step (λ c. term .0 < c) at (commitTerm (term .0)) (now (states .entry)) (now (states .exit)) ⌝ }

@@ -1,6 +1,6 @@
 // A node's turns, after what ctsim's sim/paxos_pipeline.rs does with one node: `prepare_round`
 // with the initiator, `process_round` with each node that took part.
-use crate::bits::joined;
+use crate::bits::union_of;
 use crate::paxos::Gap;
 use crate::paxos::commit_to;
 use crate::paxos::detect_gap;
@@ -22,7 +22,7 @@ ghost use Prim.Native.Nat.{_-_, _<_, _≤_};
 ghost use Rattle.config.specs.Limits.{setBits, maxTerms};
 ghost use Rattle.protocol.specs.Paxos.{vote};
 ghost use Rattle.protocol.specs.Turns.{nack, counterAfter, currentTerm, proposalData, propose, announce, takeData, takePiggyback};
-ghost use Rattle.protocol.specs.View.{Kept, Step, Reaches, TermsBelow, MayInitiate, proposalBelow, backBelow, Announces, Initiates, Takes};
+ghost use Rattle.protocol.specs.View.{Kept, Step, Becomes, TermsBelow, MayInitiate, proposalBelow, backBelow, Announces, Initiates, Takes};
 
 // What the initiator's turn gives beside its state: the packet, and the set of terms newly committed.
 pub struct Announced {
@@ -32,7 +32,7 @@ pub struct Announced {
 
 // What a participant's turn gives beside its state: the set of terms newly committed, and the NACKed
 // term with its data if the node holds it.
-pub struct Received {
+pub struct Participation {
     pub newly: u64,
     pub recovery: Piggyback,
 }
@@ -86,7 +86,7 @@ fn announce(
     let packet = Packet {
         current_term: current,
         last_accepted_term: last_accepted(states, at),
-        flags_bitmap: joined(votes_of(states, at, current), vote_of(node)),
+        flags_bitmap: union_of(votes_of(states, at, current), vote_of(node)),
         nack_term: nack,
         sender: node,
         proposal_data: data,
@@ -118,7 +118,7 @@ fn proposal_data(counter: u64, proposes: bool) -> Data
 // A new proposal, if one is made, becomes pending with the node's own vote.
 fn propose(states: &mut [u64], at: usize, node: NodeId, counter: u64, proposes: bool)
     requires { ⌜ Kept counter (now states) at × (counterAfter proposes counter ≤ maxTerms) × (node .0 < setBits) ⌝ }
-    ensures { λ _. ⌜ Reaches (counterAfter proposes counter) at (propose proposes (node .0) counter) (now (states .entry)) (now (states .exit)) ⌝ }
+    ensures { λ _. ⌜ Becomes (counterAfter proposes counter) at (propose proposes (node .0) counter) (now (states .entry)) (now (states .exit)) ⌝ }
 {
     if proposes {
         let data = Data::Of(Term(counter));
@@ -147,7 +147,7 @@ pub fn initiator_turn(
     announce(states, at, node, n, current, nack, data, piggyback)
 }
 
-// Received proposal data becomes pending.
+// Proposal data becomes pending.
 fn take_data(states: &mut [u64], at: usize, term: Term, votes: u64, d: Data)
     requires { ⌜ Kept maxTerms (now states) at × proposalBelow maxTerms (term .0) d ⌝ }
     ensures { λ _. ⌜ Step (λ c. proposalBelow c (term .0) d) at (takeData (term .0) votes d) (now (states .entry)) (now (states .exit)) ⌝ }
@@ -171,7 +171,12 @@ fn take_piggyback(states: &mut [u64], at: usize, votes: u64, piggyback: Piggybac
 
 // A participant's turn: what a node does with the packet that it holds after the flood. The flags
 // and then the own vote are merged in one pass, as their union.
-pub fn participant_turn(states: &mut [u64], at: usize, node: NodeId, packet: Packet) -> Received
+pub fn participant_turn(
+    states: &mut [u64],
+    at: usize,
+    node: NodeId,
+    packet: Packet,
+) -> Participation
     requires { ⌜ Kept maxTerms (now states) at × TermsBelow maxTerms packet × (node .0 < setBits) ⌝ }
     ensures { λ r. ⌜ Takes at (node .0) packet (now (states .entry)) r (now (states .exit)) ⌝ }
 {
@@ -182,11 +187,11 @@ pub fn participant_turn(states: &mut [u64], at: usize, node: NodeId, packet: Pac
     let data = packet.proposal_data;
     let piggyback = packet.piggyback;
     let own = vote_of(node);
-    let seen = joined(flags, own);
+    let seen = union_of(flags, own);
     let newly = commit_to(states, at, last);
     take_data(states, at, current, flags, data);
     merge_votes_up_to(states, at, current, seen);
     let recovery = recover(states, at, nack);
     take_piggyback(states, at, own, piggyback);
-    Received { newly, recovery }
+    Participation { newly, recovery }
 }

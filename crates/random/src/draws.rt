@@ -57,7 +57,8 @@ pub fn begin_draws(seed: u64) -> [u32; STREAM_SIZE]
 
 // The block of that number, of the stream of the key in hand, becomes the block in hand.
 fn fill(stream: &mut [u32; STREAM_SIZE], counter: u64)
-    ensures { λ _. ⌜ ((seed : ℕ) → Keyed seed (now (stream .entry)) → Keyed seed (now (stream .exit)) × HasBlock seed counter (now (stream .exit))) ⌝ }
+    ensures { λ _. ⌜ ((seed : ℕ) → Keyed seed (now (stream .entry))
+        → Keyed seed (now (stream .exit)) × HasBlock seed counter (now (stream .exit))) ⌝ }
 {
     let key = [
         stream[0],

@@ -30,7 +30,7 @@ ghost use lib.ListN.{length};
 ghost use Rattle.config.specs.Limits.{maxNodes};
 ghost use Rattle.listing.specs.Listing.{listingMost};
 
-const INPUT: usize = 131072;
+const INPUT_SIZE: usize = 131072;
 
 // More than a readable configuration has.
 const CONFIG: usize = 256;
@@ -159,7 +159,7 @@ fn replay(input: &[u8]) {
 }
 
 fn main() {
-    let mut input = [0u8; INPUT];
+    let mut input = [0u8; INPUT_SIZE];
     let n = io::read_full(STDIN_FILENO, &mut input);
     replay(&input[..n]);
 }

@@ -15,7 +15,7 @@
 --     ExactRounds  demand 3
 --     NothingLost  attempts and successes are equal exactly when nothing is lost
 --     Tallies      what the nodes share grows by little in a round
---     Bounds       bounds on the counts of every accepted run
+--     RunBounds    bounds on the counts of every accepted run
 --     Coverage     the covered nodes of a round are those that took part
 pub mod FirstNo
 pub mod Rounds
@@ -33,5 +33,5 @@ pub mod ExactBuffers
 pub mod ExactRounds
 pub mod NothingLost
 pub mod Tallies
-pub mod Bounds
+pub mod RunBounds
 pub mod Coverage

@@ -10,7 +10,6 @@ use Rattle.network.specs.Graph.{widened}
 use Rattle.network.specs.Distance.{diameter, measuredAs, measured}
 use Rattle.network.specs.Questions.{firstNo, nodesOf, rowsQuestions, topologyQuestions}
 use Rattle.network.specs.Topology.{topologyOf, topologyRows}
-use Rattle.network.specs.declared.distance.Measured.{Measured}
 use Rattle.network.specs.declared.distance.Measured.the-variants.{Links, Refused as Measured·Refused}
 use Rattle.network.proofs.Within.{first-no, all-yes}
 use Rattle.network.proofs.Built.{GraphBuilt}
@@ -19,7 +18,7 @@ use Rattle.network.proofs.Checks.{diameter-agree}
 use Rattle.rules.specs.declared.answer.Answer.the-variants.{Refused}
 use Rattle.rules.specs.Questions.{runQuestions, rowsRefusal, topologyRefusal}
 use Rattle.rules.specs.Accepted.{MeasuredGraph}
-use Rattle.rules.specs.Entries.{givenAs, givenOf, outcomeOf, runOfRows, runOfTopology}
+use Rattle.rules.specs.Entries.{givenAs, givenOf, outcomeOf, runOfGraph, runOfRows, runOfTopology}
 use Rattle.rules.specs.Answers.{outcome}
 use Rattle.rules.proofs.FirstNo.{row-facts}
 use Rattle.rules.proofs.Admitted.{graph-measured}
@@ -58,7 +57,7 @@ module _ (rows : List ℕ) (n : ℕ) (c : Config) (logs records snapshots : List
     rows-measured = let r = row-facts rows n e in graph-measured rows n d (r .0) (r .1) wide-diameter
 
     -- they let it pass
-    pub rows-passed : outcomeOf (firstNo (runQuestions c (length logs) (length records))) (givenAs (widened rows n) n d c) logs records snapshots ≡ runOfRows rows n c logs records snapshots
+    pub rows-passed : runOfGraph (widened rows n) n d c logs records snapshots ≡ runOfRows rows n c logs records snapshots
     unfolding runOfRows rowsRefusal
     rows-passed =
         ap₂ (λ (o : Option ℕ) (x : ℕ). outcomeOf o (givenAs (widened rows n) n x c) logs records snapshots)
@@ -80,8 +79,7 @@ module _ (topology first second : ℕ) (c : Config) (logs records snapshots : Li
     topology-measured = record { checked = b .checked; two = b .within .0; few = b .within .1; measured = m }
 
     -- they let it pass
-    pub topology-passed : outcomeOf (firstNo (runQuestions c (length logs) (length records))) (givenAs graph n d c) logs records snapshots
-        ≡ runOfTopology topology first second c logs records snapshots
+    pub topology-passed : runOfGraph graph n d c logs records snapshots ≡ runOfTopology topology first second c logs records snapshots
     unfolding runOfTopology topologyRefusal
     topology-passed =
         (λ i. outcomeOf (sym (all-yes (topologyQuestions topology first second) (runQuestions c (length logs) (length records)) (b .passes)) i)

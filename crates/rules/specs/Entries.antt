@@ -6,7 +6,7 @@ use lib.ListN.{length}
 use lib.Seq.{sets}
 use Rattle.config.specs.Limits.{maxTerms, logCounts}
 use Rattle.network.specs.Graph.{widened}
-use Rattle.network.specs.Questions.{nodesOf}
+use Rattle.network.specs.Questions.{firstNo, nodesOf}
 use Rattle.network.specs.Topology.{topologyRows, topologyOf}
 use Rattle.network.specs.Distance.{diameter}
 use Rattle.random.specs.Reception.{heardAt}
@@ -18,7 +18,7 @@ use Rattle.metrics.specs.declared.summary.Summary.{Summary}
 use Rattle.config.specs.declared.Config.{Config}
 use Rattle.rules.specs.declared.answer.Answer.{Answer}
 use Rattle.rules.specs.declared.answer.Answer.the-variants.{Ran, Refused}
-use Rattle.rules.specs.Questions.{rowsRefusal, topologyRefusal}
+use Rattle.rules.specs.Questions.{runQuestions, rowsRefusal, topologyRefusal}
 use Rattle.pipeline.specs.Round.{Record, recordTriple, stateOf}
 use Rattle.rules.specs.Run.{Given, Running, Ended, run}
 
@@ -105,6 +105,11 @@ givenOf rows n c = let graph : List ℕ = widened rows n in givenAs graph n (dia
 abbrev pub outcomeOf : Option ℕ → Given → List ℕ → List ℕ → List ℕ → Outcome
 outcomeOf none g logs records snapshots = ranWith g logs records snapshots
 outcomeOf (some k) g logs records snapshots = record { answer = Refused k; logs = logs; records = records; snapshots = snapshots }
+
+-- run of a graph that its own questions let pass: questions 5 to 10, then the run
+abbrev pub runOfGraph : List ℕ → ℕ → ℕ → Config → List ℕ → List ℕ → List ℕ → Outcome
+runOfGraph graph n d c logs records snapshots =
+    outcomeOf (firstNo (runQuestions c (length logs) (length records))) (givenAs graph n d c) logs records snapshots
 
 -- run of rows
 unfoldable pub runOfRows : List ℕ → ℕ → Config → List ℕ → List ℕ → List ℕ → Outcome

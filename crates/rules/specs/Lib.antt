@@ -6,7 +6,7 @@
 --     Answers      what the code's answers say
 --     ExactRounds  demand 3
 --     NothingLost  when a run has lost nothing
---     Bounds       bounds on the counts of every accepted run
+--     RunBounds    bounds on the counts of every accepted run
 --     Coverage     the covered nodes of a round are those that took part
 pub mod Run
 pub mod Questions
@@ -15,5 +15,5 @@ pub mod Entries
 pub mod Answers
 pub mod ExactRounds
 pub mod NothingLost
-pub mod Bounds
+pub mod RunBounds
 pub mod Coverage

@@ -18,7 +18,7 @@ use Rattle.network.proofs.Sets.{two}
 use Rattle.random.proofs.Tables.{is-tabulate}
 use Rattle.phy.specs.declared.node.Node.{Node}
 use Rattle.phy.specs.declared.packet.Piggyback.{Piggyback}
-use Rattle.phy.specs.declared.slot.Flood.{Flood}
+use Rattle.phy.specs.declared.slot.Radios.{Radios}
 use Rattle.phy.specs.Node.{new, total, isListening, isFlooding}
 use Rattle.phy.specs.Slot.{at, Standing}
 use Rattle.phy.specs.View.{Stands}
@@ -32,7 +32,7 @@ use Rattle.pipeline.specs.Round.{recorded}
 use Rattle.pipeline.specs.View.{fewNodes, someNodes, historySize, Recording, Sharing, statesOf, recordsOf, sharedOf, tableSize}
 use Rattle.rules.specs.Run.{Given, begin}
 use Rattle.rules.proofs.Sums.{sum-new}
-use Rattle.sim.specs.Going.{NewFlood, NewRun}
+use Rattle.sim.specs.Going.{NewRadios, NewRun}
 use Rattle.sim.proofs.Full.{full-set}
 
 -- ---- sets
@@ -50,8 +50,8 @@ new-at : (n j : ℕ) → j < n → at (replicate n new) j ≡ new
 new-at n j h = getD-replicate n j new new h
 
 module _ (n listening : ℕ) (few : n ≤ maxNodes) (all : listening ≡ 2 ^ n - 1) where
-  abbrev newFlood : Flood
-  newFlood =
+  abbrev newRadios : Radios
+  newRadios =
       record {
         listening = listening;
         flooding = 0;
@@ -68,7 +68,7 @@ module _ (n listening : ℕ) (few : n ≤ maxNodes) (all : listening ≡ 2 ^ n -
   abbrev newStanding : ℕ → Standing
   newStanding m = record { nodes = replicate m new; attempts = 0; successes = 0; slot = 0; shots = record { next = 0; taken = [] } }
 
-  stands : (b : List ℕ) → Stands n newFlood b b (newStanding n)
+  stands : (b : List ℕ) → Stands n newRadios b b (newStanding n)
   stands b =
       record {
         listening = omega (arith, all, pow-pos n, full-set n (λ (j : ℕ). isListening (at (replicate n new) j)) (λ j h. ap isListening (new-at n j h)));
@@ -83,10 +83,10 @@ module _ (n listening : ℕ) (few : n ≤ maxNodes) (all : listening ≡ 2 ^ n -
         shots = scheduled-none b;
       }
 
-  pub new-flood : NewFlood n newFlood
-  new-flood =
+  pub new-radios : NewRadios n newRadios
+  new-radios =
       record {
-        stands = λ g b e. subst⁻¹ (λ (m : ℕ). Stands n newFlood b b (newStanding m)) e (stands b);
+        stands = λ g b e. subst⁻¹ (λ (m : ℕ). Stands n newRadios b b (newStanding m)) e (stands b);
         sound = λ g e low high i. record { few = omega (arith, e); repeats = (low, high); interval = i; attempts = omega arith; successes = omega arith; next = sym (zero-mul (g .interval)) };
         first = refl;
         untried = refl;
@@ -149,6 +149,6 @@ module _ (n : ℕ) (few : n ≤ maxNodes) where
         back = tt;
       }
 
-  pub new-run : {flood : Flood} → NewFlood n flood → NewRun n (record { flood = flood; carry = newCarry; covered = 0; progress = 0 })
+  pub new-run : {flood : Radios} → NewRadios n flood → NewRun n (record { flood = flood; carry = newCarry; covered = 0; progress = 0 })
   new-run f =
       record { flood = f; shared = new-shared; sharing = new-sharing; covered = refl; progress = refl; nacks = refl; piggybacks = refl }

@@ -9,7 +9,7 @@ use Rattle.config.specs.Limits.{maxTerms, maxNodes, mostRounds}
 use Rattle.network.specs.Graph.{has, count}
 use Rattle.network.proofs.Sets.{has-setOf}
 use Rattle.phy.specs.declared.ci.Round.{Round}
-use Rattle.phy.specs.declared.slot.Flood.{Flood}
+use Rattle.phy.specs.declared.slot.Radios.{Radios}
 use Rattle.phy.specs.declared.slot.Settings.{Settings}
 use Rattle.phy.specs.Round.{Flooded, lengthLimit, participants, round}
 use Rattle.phy.specs.View.{Tables, Sound, Stands, CanFlood, Rounded, asSetup}
@@ -32,7 +32,7 @@ unfolding round participants
 ones-part g k r = ones-setOf (g .nodes) _ ∙ count-cong (g .nodes) _ _ (λ j h. sym (has-setOf (g .nodes) _ j h))
 
 -- what holds between slots does not speak of the progress
-sound-as : (p : Plan) (m q : ℕ) {x : Flood} → Sound (settingsOf p m) x → Sound (settingsOf p q) x
+sound-as : (p : Plan) (m q : ℕ) {x : Radios} → Sound (settingsOf p m) x → Sound (settingsOf p q) x
 sound-as p m q s =
     record { few = s .few; repeats = s .repeats; interval = s .interval; attempts = s .attempts; successes = s .successes; next = s .next }
 

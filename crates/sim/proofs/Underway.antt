@@ -26,7 +26,7 @@ use Rattle.sim.specs.declared.run.Plan.{Plan}
 use Rattle.sim.specs.declared.run.Run.{Run}
 use Rattle.sim.specs.declared.run.Played.{Played}
 use Rattle.sim.specs.declared.run.Stopped.{Stopped}
-use Rattle.sim.specs.declared.survey.Progress.{Progress}
+use Rattle.sim.specs.declared.survey.Surveyed.{Surveyed}
 use Rattle.sim.specs.Going.{planned, settingsOf, Workspace, Shows, Steady, Plays, Surveys, CanGo, Underway, Goes, NewRun}
 
 -- ---- what the code shows
@@ -143,7 +143,7 @@ module _ {graph : List ℕ} {p : Plan} {most : ℕ} {b₀ : List ℕ} where
 
       -- after one round more, whose end is told by what the survey of the logs saw
       module _ (below : x .flood .slot .0 < p .config .«max_slots») {r : Played} {w' : Workspace} (pl : Plays graph p k x w r w')
-          {logs : Progress} (seen : Surveys (p .nodes) (p .config .«num_proposals») (w' .states) logs) where
+          {logs : Surveyed} (seen : Surveys (p .nodes) (p .config .«num_proposals») (w' .states) logs) where
         abbrev next : Running
         next = runRound (planned graph p) k (u .here)
 

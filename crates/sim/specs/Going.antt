@@ -8,7 +8,7 @@ use Rattle.config.specs.Limits.{maxNodes, maxTerms, maxRepeats, maxRoundSlots, 
 use Rattle.random.specs.Draws.{DrawNext}
 use Rattle.random.specs.Reception.{Source}
 use Rattle.phy.specs.declared.slot.Settings.{Settings}
-use Rattle.phy.specs.declared.slot.Flood.{Flood}
+use Rattle.phy.specs.declared.slot.Radios.{Radios}
 use Rattle.phy.specs.View.{Tables, tables, Sound, Stands}
 use Rattle.pipeline.specs.Round.{shortestLog}
 use Rattle.pipeline.specs.View.{AllKept, statesOf, Sharing, sharedOf, tableSize, historySize}
@@ -21,7 +21,7 @@ use Rattle.sim.specs.declared.run.Plan.{Plan}
 use Rattle.sim.specs.declared.run.Run.{Run}
 use Rattle.sim.specs.declared.run.Played.{Played}
 use Rattle.sim.specs.declared.run.Stopped.{Stopped}
-use Rattle.sim.specs.declared.survey.Progress.{Progress}
+use Rattle.sim.specs.declared.survey.Surveyed.{Surveyed}
 
 -- the run of a graph that a plan asks for
 abbrev pub planned : List ℕ → Plan → Given
@@ -110,7 +110,7 @@ pub record CanSurvey (n proposals : ℕ) (states : List ℕ) : Type 0 where
   pub most : proposals ≤ maxTerms
 
 -- the length of the shortest log, and whether all logs hold every proposal
-pub record Surveys (n proposals : ℕ) (states : List ℕ) (r : Progress) : Type 0 where
+pub record Surveys (n proposals : ℕ) (states : List ℕ) (r : Surveyed) : Type 0 where
   pub shortest : r .shortest ≡ shortestLog (statesOf n states) n
   pub complete : r .complete ≡ complete n proposals (statesOf n states)
 
@@ -152,8 +152,8 @@ pub record Stops (graph : List ℕ) (p : Plan) (most : ℕ) (r : Stopped) (b₀ 
 
 -- ---- before the first round
 
--- a flood before the first round
-pub record NewFlood (n : ℕ) (x : Flood) : Type 0 where
+-- the radios before the first round
+pub record NewRadios (n : ℕ) (x : Radios) : Type 0 where
   pub stands : (g : Given) (b : List ℕ) → g .nodes ≡ n → Stands n x b b (begin g .standing)
   pub sound : (g : Settings) → g .nodes ≡ n → 1 ≤ g .repeats → g .repeats ≤ maxRepeats → 1 ≤ g .interval → Sound g x
   pub first : x .slot .0 ≡ 0
@@ -161,7 +161,7 @@ pub record NewFlood (n : ℕ) (x : Flood) : Type 0 where
 
 -- a run before the first round
 pub record NewRun (n : ℕ) (x : Run) : Type 0 where
-  pub flood : NewFlood n (x .flood)
+  pub flood : NewRadios n (x .flood)
   pub shared : (g : Given) → g .nodes ≡ n → sharedOf n (x .carry) (replicate (tableSize n) 0) (replicate historySize 0) ≡ begin g .shared
   pub sharing : Sharing n (x .carry) (replicate (tableSize n) 0) (replicate historySize 0)
   pub covered : x .covered ≡ 0

@@ -13,12 +13,9 @@ use rules::answer::Answer;
 use rules::questions::Refusal;
 use rules::questions::run_refusal;
 ghost use mathlib.Core.Path.{_≡_};
-ghost use lib.ListN.{length};
-ghost use Rattle.network.specs.Questions.{firstNo};
 ghost use Rattle.rules.specs.Accepted.{MeasuredGraph};
 ghost use Rattle.rules.specs.Answers.{outcome};
-ghost use Rattle.rules.specs.Entries.{givenAs, outcomeOf, runOfRows, runOfTopology};
-ghost use Rattle.rules.specs.Questions.{runQuestions};
+ghost use Rattle.rules.specs.Entries.{runOfGraph, runOfRows, runOfTopology};
 
 // A run of a graph that its own questions let pass: questions 5 to 10, then the run.
 fn run_graph(
@@ -33,8 +30,7 @@ fn run_graph(
     requires { ⌜ MeasuredGraph (now graph) nodes diameter ⌝ }
     ensures { λ r. ⌜
         outcome r (now (logs .exit)) (now (records .exit)) (now (snapshots .exit))
-        ≡ outcomeOf (firstNo (runQuestions config (length (now (logs .entry))) (length (now (records .entry)))))
-        (givenAs (now (graph .entry)) nodes diameter config) (now (logs .entry)) (now (records .entry)) (now (snapshots .entry)) ⌝ }
+        ≡ runOfGraph (now (graph .entry)) nodes diameter config (now (logs .entry)) (now (records .entry)) (now (snapshots .entry)) ⌝ }
 {
     let refusal = run_refusal(config, logs.len(), records.len());
     match refusal {

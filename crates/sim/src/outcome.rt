@@ -72,7 +72,7 @@ fn run_over(
     summary_of(stopped, plan.nodes)
 }
 
-// The run of a graph. A table of states that fits few nodes is sooner zeroed.
+// The run of a graph. A table of states that fits few nodes takes less time to zero.
 pub fn run_pipeline(
     graph: &[u64; MAX_NODES],
     plan: Plan,

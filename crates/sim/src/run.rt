@@ -11,8 +11,8 @@ use phy::ci::flood_identical_round;
 use phy::ci::length_limit;
 use phy::packet::Packet;
 use phy::packet::Piggyback;
-use phy::slot::Flood;
 use phy::slot::QUEUE_SIZE;
+use phy::slot::Radios;
 use phy::slot::Settings;
 use pipeline::carry::Carry;
 use pipeline::records::HISTORY_SIZE;
@@ -26,7 +26,7 @@ ghost use mathlib.Core.Bool.{cond, _&&_};
 ghost use lib.Dec.{eqb, ltb};
 ghost use Prim.Native.Nat.{_+_, _*_, _≤_};
 ghost use Rattle.config.specs.Limits.{maxNodes, maxTerms, maxRepeats, roundsPerLink, extraRounds};
-ghost use Rattle.sim.specs.Going.{settingsOf, workspace, CanPlay, Plays, CanStart, CanGo, Goes, Stops, NewFlood, NewRun};
+ghost use Rattle.sim.specs.Going.{settingsOf, workspace, CanPlay, Plays, CanStart, CanGo, Goes, Stops, NewRadios, NewRun};
 
 // What a run is given beside the rows of its graph.
 pub struct Plan {
@@ -37,7 +37,7 @@ pub struct Plan {
 
 // Where a run stands between rounds. Snapshots show the progress, the length of the shortest log.
 pub struct Run {
-    pub flood: Flood,
+    pub flood: Radios,
     pub carry: Carry,
     pub covered: u64,
     pub progress: u64,
@@ -58,11 +58,11 @@ pub struct Stopped {
 }
 
 // The radios before the first round: every node listens.
-fn new_flood(n: usize) -> Flood
+fn new_radios(n: usize) -> Radios
     requires { ⌜ n ≤ maxNodes ⌝ }
-    ensures { λ r. ⌜ NewFlood n r ⌝ }
+    ensures { λ r. ⌜ NewRadios n r ⌝ }
 {
-    Flood {
+    Radios {
         listening: full_set(n),
         flooding: 0,
         slots_listen: 0,
@@ -81,7 +81,7 @@ fn new_run(n: usize) -> Run
     requires { ⌜ n ≤ maxNodes ⌝ }
     ensures { λ r. ⌜ NewRun n r ⌝ }
 {
-    let flood = new_flood(n);
+    let flood = new_radios(n);
     let carry = Carry {
         counter: 0,
         recorded: Recorded { count: 0, terms: 0 },

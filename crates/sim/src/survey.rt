@@ -10,7 +10,7 @@ ghost use Rattle.network.specs.Graph.{has, all};
 ghost use Rattle.sim.specs.Going.{CanSurvey, Surveys};
 
 // The length of the shortest log, and whether all logs hold every proposal.
-pub struct Progress {
+pub struct Surveyed {
     pub shortest: u64,
     pub complete: bool,
 }
@@ -32,7 +32,7 @@ fn logs_all(logged: u64, proposals: usize) -> bool
 
 // Looks at the logs of the first n nodes. A log with the terms of the first is no shorter, so only the others are counted;
 // all logs hold every proposal when their intersection does.
-pub fn survey(states: &[u64], n: usize, proposals: usize) -> Progress
+pub fn survey(states: &[u64], n: usize, proposals: usize) -> Surveyed
     requires { ⌜ CanSurvey n proposals (now states) ⌝ }
     ensures { λ r. ⌜ Surveys n proposals (now (states .entry)) r ⌝ }
 {
@@ -46,7 +46,7 @@ pub fn survey(states: &[u64], n: usize, proposals: usize) -> Progress
         }
         common = common & logged;
     }
-    Progress {
+    Surveyed {
         shortest,
         complete: logs_all(common, proposals),
     }

@@ -1,5 +1,6 @@
 use Prim.Native.Nat.{_-_}
 use native.Mathlib.Omega.{arith}
+use Rattle.config.specs.Limits.{maxTerms}
 use Rattle.listing.specs.Listing.{termMost, termText}
 use Rattle.listing.proofs.Overlays.{Listed, each-none, each-more, each-all, reach, same-size}
 use Rattle.listing.proofs.write.put_terms.Statement.{statement}
@@ -22,4 +23,4 @@ put-terms-spec =
     tie.close
     (tie.spec
     Inv-loop μ-loop (λ c. each-none) put-term-requires (λ c. omega arith) (λ c. omega arith) loop-again
-    (λ c. same-size (c .before .loop .inv .laid)) (λ c. each-all (c .before .loop .inv) (omega arith) (omega arith)))
+    (λ c. same-size (c .before .loop .inv .laid)) (λ c. each-all (c .before .loop .inv) {most = maxTerms} (omega arith) (omega arith)))

@@ -1,4 +1,4 @@
--- `network::rule::back` meets its contract: below k no node is k back.
+-- `network::neighbours::back` meets its contract: below k no node is k back.
 -- Assumes nothing.
 use mathlib.Core.Path.{sym, _∙_}
 use Prim.Native.Nat.{_+_}

@@ -1,4 +1,4 @@
--- `network::rule::beside` meets its contract: the two parts of the rule.
+-- `network::neighbours::beside` meets its contract: the two parts of the rule.
 -- Assumes nothing.
 use Prim.Native.Nat.{_+_}
 use lib.Dec.{eqb}

@@ -1,4 +1,4 @@
--- `network::rule::children` meets its contract: the numbers from the first child to the last, or to the last node.
+-- `network::neighbours::children` meets its contract: the numbers from the first child to the last, or to the last node.
 -- Assumes nothing.
 use mathlib.Core.Path.{sym, ap, ap₂, _∙_}
 use mathlib.Core.Bool.{Bool, _&&_}

@@ -1,4 +1,4 @@
--- `network::rule::closing` meets its contract: the last node closes the ring at the first, the first at the last, and none at any other.
+-- `network::neighbours::closing` meets its contract: the last node closes the ring at the first, the first at the last, and none at any other.
 -- Assumes nothing.
 use mathlib.Core.Path.{sym, ap, _∙_}
 use mathlib.Core.Bool.{Bool, _&&_, _||_, or-false}

@@ -1,4 +1,4 @@
--- `network::rule::left_and_above` meets its contract: the node before i is in its row where i is not the first there.
+-- `network::neighbours::left_and_above` meets its contract: the node before i is in its row where i is not the first there.
 -- Assumes nothing.
 use mathlib.Core.Path.{sym, ap, _∙_}
 use mathlib.Core.Bool.{Bool, _||_}

@@ -1,4 +1,4 @@
--- `network::rule::only` meets its contract: a set of one node, or of none.
+-- `network::neighbours::only` meets its contract: a set of one node, or of none.
 -- Assumes nothing.
 use mathlib.Core.Path.{sym, _∙_}
 use native.Mathlib.Omega.{arith}

@@ -1,4 +1,4 @@
--- `network::rule::others` meets its contract: all nodes without one of them.
+-- `network::neighbours::others` meets its contract: all nodes without one of them.
 -- Assumes nothing.
 use mathlib.Core.Path.{ap₂, _∙_}
 use Prim.Native.Nat.{_-_}

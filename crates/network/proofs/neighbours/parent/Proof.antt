@@ -1,4 +1,4 @@
--- `network::rule::parent` meets its contract: the quotient is the only node whose child i is.
+-- `network::neighbours::parent` meets its contract: the quotient is the only node whose child i is.
 -- Assumes nothing.
 use mathlib.Core.Path.{sym, ap, _∙_}
 use mathlib.Core.Bool.{Bool, _&&_}

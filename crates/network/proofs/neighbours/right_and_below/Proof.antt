@@ -1,4 +1,4 @@
--- `network::rule::right_and_below` meets its contract: the first part of the rule stands under the test.
+-- `network::neighbours::right_and_below` meets its contract: the first part of the rule stands under the test.
 -- Assumes nothing.
 use Prim.Native.Nat.{_+_}
 use native.Mathlib.Nat.{mod-le}

@@ -1,4 +1,4 @@
--- `network::rule::row` meets its contract: each arm gives the parts of its topology's rule; a grid's is that of its rows and columns.
+-- `network::neighbours::row` meets its contract: each arm gives the parts of its topology's rule; a grid's is that of its rows and columns.
 -- Assumes nothing.
 use mathlib.Core.Path.{_∙_, subst}
 use mathlib.Core.Bool.{_&&_, _||_}

@@ -1,4 +1,4 @@
--- `network::rule::star` meets its contract: the rule at its centre, and at any other node.
+-- `network::neighbours::star` meets its contract: the rule at its centre, and at any other node.
 -- Assumes nothing.
 use mathlib.Core.Path.{_∙_}
 use Rattle.network.proofs.Sets.{setOf-cong}

@@ -10,7 +10,7 @@ use Rattle.phy.specs.declared.packet.LastAccepted.{LastAccepted}
 use Rattle.phy.specs.declared.packet.Nack.{Nack}
 use Rattle.phy.specs.declared.packet.Packet.{Packet}
 use Rattle.phy.specs.declared.packet.Piggyback.{Piggyback}
-use Rattle.phy.specs.declared.slot.Flood.{Flood}
+use Rattle.phy.specs.declared.slot.Radios.{Radios}
 use Rattle.phy.specs.Round.{round}
 use Rattle.phy.specs.View.{Sound, CanBegin}
 use Rattle.phy.proofs.RoundEnds.{opens, delivered-stands, delivered-part}
@@ -42,7 +42,7 @@ begun-source : (c : tie.After-begin-round) (heard : ℕ → Bool) → let a = st
     Source (a .settings .rate) heard (a .flood .attempts) (now (a .stream)) → Source (a .settings .rate) heard (c .begin-round .result .attempts) (now (a .stream))
 begun-source c heard s =
     let a = start c .args in
-    subst⁻¹ (λ (z : Flood). Source (a .settings .rate) heard (z .attempts) (now (a .stream))) (c .begin-round .ensures .flood) s
+    subst⁻¹ (λ (z : Radios). Source (a .settings .rate) heard (z .attempts) (now (a .stream))) (c .begin-round .ensures .flood) s
 
 cast-empty-queue : tie.Need-cast-empty-queue
 cast-empty-queue c = search needs
@@ -61,7 +61,7 @@ slots-requires c κs =
     let sound = pre .sound in
     let opened = begun .begin-round .ensures in (
       subst⁻¹ (Sound (a .settings)) (opened .flood) (record { few = sound .few; repeats = sound .repeats; interval = sound .interval; attempts = sound .attempts; successes = sound .successes; next = sound .next }),
-      omega (arith, pre .early, ap (λ (z : Flood). z .slot .0) (opened .flood)),
+      omega (arith, pre .early, ap (λ (z : Radios). z .slot .0) (opened .flood)),
       record {
         heard = pre .heard;
         source = begun-source begun (pre .heard) (pre .source);
@@ -91,7 +91,7 @@ returns c =
     let opened = begun .begin-round .ensures in
     record {
       sound = run .sound;
-      slots = omega (arith, run .slots, ap (λ (z : Flood). z .slot .0) (opened .flood));
+      slots = omega (arith, run .slots, ap (λ (z : Radios). z .slot .0) (opened .flood));
       room = run .room;
       source = λ heard s. run .source heard (begun-source begun heard s);
       stands = λ heard source packet b₀ s st.

@@ -6,7 +6,7 @@ use native.Mathlib.Omega.{arith}
 use denote.Ref.{now}
 use lib.ListN.{length}
 use Rattle.random.specs.Reception.{Source}
-use Rattle.phy.specs.declared.slot.Flood.{Flood}
+use Rattle.phy.specs.declared.slot.Radios.{Radios}
 use Rattle.phy.specs.declared.slot.Settings.{Settings}
 use Rattle.phy.specs.Slot.{Standing, slotStep}
 use Rattle.phy.specs.Round.{slots}
@@ -16,7 +16,7 @@ use Rattle.phy.proofs.ci.slots.Statement.{statement}
 use Rattle.phy.proofs.ci.slots.Tie as tie
 
 -- from x₀ and t₀ the code has come to x and t, with so many slots of the limit left
-record Onward (g : Settings) (rows : List ℕ) (longest : ℕ) (x₀ : Flood) (t₀ : Tables) (x : Flood) (t : Tables) (more place : ℕ) : Type 0 where
+record Onward (g : Settings) (rows : List ℕ) (longest : ℕ) (x₀ : Radios) (t₀ : Tables) (x : Radios) (t : Tables) (more place : ℕ) : Type 0 where
   sound : Sound g x
   slots-left : x .slot .0 + more ≤ x₀ .slot .0 + longest
   size : length (t .snapshots) ≡ length (t₀ .snapshots)
@@ -26,7 +26,7 @@ record Onward (g : Settings) (rows : List ℕ) (longest : ℕ) (x₀ : Flood) (t
       → (s : Standing) × InSlot g place x t b₀ s × (slots (asSetup g rows heard) more s ≡ slots (asSetup g rows heard) longest s₀)
 
 -- one slot more
-module _ {g : Settings} {rows : List ℕ} {longest : ℕ} {x₀ : Flood} {t₀ : Tables} {x : Flood} {t : Tables} {more place : ℕ} {r : Flood} {t' : Tables}
+module _ {g : Settings} {rows : List ℕ} {longest : ℕ} {x₀ : Radios} {t₀ : Tables} {x : Radios} {t : Tables} {more place : ℕ} {r : Radios} {t' : Tables}
     (o : Onward g rows longest x₀ t₀ x t more place) (some : 1 ≤ more) (stepped : Stepped g rows place x t r t') where
   one : more ≡ suc (more - 1)
   one = omega (arith, some)

@@ -80,17 +80,17 @@ sub-end c = omega (arith, top c .within)
 loop-holds : tie.Need-loop-holds Inv-loop μ-loop
 loop-holds c = (omega arith, omega (arith, has-below (top c .above) _ (low c .is)), omega arith, merged-none _ _ _ _)
 
-add-joined : tie.Need-add-joined Inv-loop μ-loop
-add-joined c = omega (arith, fits c)
+add-union-of : tie.Need-add-union-of Inv-loop μ-loop
+add-union-of c = omega (arith, fits c)
 
-mul-joined : tie.Need-mul-joined Inv-loop μ-loop
-mul-joined c = omega (arith, fits c)
+mul-union-of : tie.Need-mul-union-of Inv-loop μ-loop
+mul-union-of c = omega (arith, fits c)
 
-slice-read-joined : tie.Need-slice-read-joined Inv-loop μ-loop
-slice-read-joined c = omega (arith, fits (c .before))
+slice-read-union-of : tie.Need-slice-read-union-of Inv-loop μ-loop
+slice-read-union-of c = omega (arith, fits (c .before))
 
-joined-requires : tie.Need-joined-requires Inv-loop μ-loop
-joined-requires c κs = search needs
+union-of-requires : tie.Need-union-of-requires Inv-loop μ-loop
+union-of-requires c κs = search needs
 
 add-states : tie.Need-add-states Inv-loop μ-loop
 add-states c = omega (arith, fits (c .before .before))
@@ -116,7 +116,7 @@ loop-again c =
       omega arith,
       omega arith,
       l .inv .2,
-      merged-more (a .at) (a .states .now) (a .bitmap) _ (l .t) (l .states) (l .inv .3) _ (l .inv .0) (omega arith) (c .joined .ensures),
+      merged-more (a .at) (a .states .now) (a .bitmap) _ (l .t) (l .states) (l .inv .3) _ (l .inv .0) (omega arith) (c .union-of .ensures),
     )
 
 same-length-2 : tie.Need-same-length-2 Inv-loop μ-loop
@@ -148,10 +148,10 @@ merge-votes-up-to-spec =
     cast-end
     sub-end
     loop-holds
-    add-joined
-    mul-joined
-    slice-read-joined
-    joined-requires
+    add-union-of
+    mul-union-of
+    slice-read-union-of
+    union-of-requires
     add-states
     mul-states
     slice-write-states

@@ -31,8 +31,8 @@ votes-of-requires c κs =
 vote-of-requires : tie.Need-vote-of-requires
 vote-of-requires c κs = search needs
 
-joined-requires : tie.Need-joined-requires
-joined-requires c κs = search needs
+union-of-requires : tie.Need-union-of-requires
+union-of-requires c κs = search needs
 
 same-length : tie.Need-same-length
 same-length c = search needs
@@ -50,8 +50,8 @@ returns c =
     n .is ∙ ap (λ (l : LastAccepted). commitTo l x) e in
     let last : c .before .before .before .before .last-accepted .result ≡ commitTo (quorumTerm (a .n) x) x .last =
     c .before .before .before .before .last-accepted .ensures ∙ ap (λ (y : State). y .last) is in
-    let flags : c .joined .result ≡ union (votesOf (commitTo (quorumTerm (a .n) x) x .pending (a .current .0))) (vote (a .node .0)) =
-    c .joined .ensures ∙
+    let flags : c .union-of .result ≡ union (votesOf (commitTo (quorumTerm (a .n) x) x .pending (a .current .0))) (vote (a .node .0)) =
+    c .union-of .ensures ∙
     ap₂ union
     (c .before .before .votes-of .ensures ∙ ap (λ (y : State). votesOf (y .pending (a .current .0))) is)
     (c .before .vote-of .ensures) in
@@ -79,6 +79,6 @@ announce-spec =
     last-accepted-requires
     votes-of-requires
     vote-of-requires
-    joined-requires
+    union-of-requires
     same-length
     returns)

@@ -30,7 +30,7 @@ voted : (c : tie.After-merge-votes-up-to) →
 unfolding takeVotes
 voted c =
     let o = voted-own (committed c) in
-    let seen = committed c .before .before .joined in
+    let seen = committed c .before .before .union-of in
     let a = start o .args in
     let p = a .packet in
     let u = p .«current_term» .0 in
@@ -53,8 +53,8 @@ voted c =
 vote-of-requires : tie.Need-vote-of-requires
 vote-of-requires c κs = search needs
 
-joined-requires : tie.Need-joined-requires
-joined-requires c κs = search needs
+union-of-requires : tie.Need-union-of-requires
+union-of-requires c κs = search needs
 
 commit-to-requires : tie.Need-commit-to-requires
 commit-to-requires c κs = search needs
@@ -114,7 +114,7 @@ participant-turn-spec =
     tie.close
     (tie.spec
     vote-of-requires
-    joined-requires
+    union-of-requires
     commit-to-requires
     take-data-requires
     merge-votes-up-to-requires

@@ -6,7 +6,7 @@ use denote.Ref.{now}
 use lib.ListN.{length}
 use Rattle.network.specs.Questions.{firstNo}
 use Rattle.rules.specs.Questions.{configQuestions, bufferQuestions, runQuestions}
-use Rattle.rules.specs.Entries.{givenAs, outcomeOf}
+use Rattle.rules.specs.Entries.{Outcome, givenAs, outcomeOf}
 use Rattle.rules.specs.Answers.{refusalOf}
 use Rattle.rules.proofs.FirstNo.{both-none, buffer-facts}
 use Rattle.rules.proofs.Admitted.{accepts}
@@ -38,9 +38,9 @@ returns c =
 returns-2 : tie.Need-returns-2
 returns-2 c =
     let a = start (c .before .before .before .before .before .before .before .before .before .before .before .before) .args in
-    c .before .before .before .before .before .before .run-pipeline .ensures
-    ∙ ap (λ (o : Option ℕ). outcomeOf o (givenAs (now (a .graph)) (a .nodes) (a .diameter) (a .config)) (now (a .logs)) (now (a .records)) (now (a .snapshots)))
-    (sym (passed (c .before .before .before .before .before .before .before .before .before .before)))
+    let over : Option ℕ → Outcome = λ o. outcomeOf o (givenAs (now (a .graph)) (a .nodes) (a .diameter) (a .config)) (now (a .logs)) (now (a .records)) (now (a .snapshots)) in
+    _∙_ {b = over none} (c .before .before .before .before .before .before .run-pipeline .ensures)
+    (ap over (sym (passed (c .before .before .before .before .before .before .before .before .before .before))))
 
 pub run-graph-spec : {M : Type 1} → statement M
 run-graph-spec =

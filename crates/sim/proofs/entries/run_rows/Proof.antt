@@ -4,12 +4,10 @@ use mathlib.Core.List.{List}
 use mathlib.Core.Option.{none}
 use borrow.Author.Needs.{needs}
 use denote.Ref.{now}
-use lib.ListN.{length}
 use Rattle.network.specs.Distance.{diameter}
 use Rattle.network.specs.Questions.{firstNo, rowsQuestions}
 use Rattle.rules.specs.Accepted.{MeasuredGraph}
-use Rattle.rules.specs.Questions.{runQuestions}
-use Rattle.rules.specs.Entries.{Outcome, givenAs, outcomeOf}
+use Rattle.rules.specs.Entries.{Outcome, runOfGraph}
 use Rattle.rules.proofs.FirstNo.{row-facts}
 use Rattle.rules.proofs.Outcomes.{measured-refused, measured-links, rows-refused, rows-measured, rows-passed}
 use Rattle.sim.proofs.entries.run_rows.Statement.{statement}
@@ -51,7 +49,7 @@ returns-2 c =
     let l = links m in
     let d = m .measured2 .given .0 .0 in
     let w = c .before .before .before .before .before .before .before .before .before .before .before in
-    let over : List ℕ → Outcome = λ g. outcomeOf (firstNo (runQuestions (a .config) (length (now (a .logs))) (length (now (a .records))))) (givenAs g (a .n) d (a .config)) (now (a .logs)) (now (a .records)) (now (a .snapshots)) in
+    let over : List ℕ → Outcome = λ g. runOfGraph g (a .n) d (a .config) (now (a .logs)) (now (a .records)) (now (a .snapshots)) in
     _∙_ {b = over (w .widen .result)} (c .before .before .before .before .before .before .run-graph .ensures)
     (ap over (w .widen .ensures) ∙ rows-passed (now (a .rows)) (a .n) (a .config) (now (a .logs)) (now (a .records)) (now (a .snapshots)) d (l .0) (l .1))
 

@@ -2,6 +2,7 @@ use mathlib.Core.Path.{_∙_}
 use borrow.Author.Needs.{needs}
 use denote.Ref.{now}
 use Rattle.network.proofs.Built.{GraphBuilt, graph-refused, graph-built}
+use Rattle.rules.specs.Entries.{runOfGraph}
 use Rattle.rules.proofs.Outcomes.{topology-refused, topology-measured, topology-passed}
 use Rattle.sim.proofs.entries.run_topology.Statement.{statement}
 use Rattle.sim.proofs.entries.run_topology.Tie as tie
@@ -35,8 +36,10 @@ returns-2 : tie.Need-returns-2
 returns-2 c =
     let m = c .before .before .before .before .before .before .before .before .before .before .before .before .before .before .before in
     let a = start (m .before .before) .args in
-    c .before .before .before .before .before .before .run-graph .ensures
-    ∙ topology-passed (a .topology) (a .first) (a .second) (a .config) (now (a .logs)) (now (a .records)) (now (a .snapshots)) (built m) _ (c .before .before .before .before .before .before .before .before .before .before .before .diameter-of .ensures)
+    let far = c .before .before .before .before .before .before .before .before .before .before .before .diameter-of in
+    _∙_ {b = runOfGraph (m .before .before .build-graph .result .rows) (m .answer2 .given .0 .0) (far .result) (a .config) (now (a .logs)) (now (a .records)) (now (a .snapshots))}
+    (c .before .before .before .before .before .before .run-graph .ensures)
+    (topology-passed (a .topology) (a .first) (a .second) (a .config) (now (a .logs)) (now (a .records)) (now (a .snapshots)) (built m) (far .result) (far .ensures))
 
 pub run-topology-spec : {M : Type 1} → statement M
 run-topology-spec =

@@ -3,11 +3,11 @@ use Rattle.sim.proofs.Beginning.{new-run}
 use Rattle.sim.proofs.run.new_run.Statement.{statement}
 use Rattle.sim.proofs.run.new_run.Tie as tie
 
-new-flood-requires : tie.Need-new-flood-requires
-new-flood-requires c κs = search needs
+new-radios-requires : tie.Need-new-radios-requires
+new-radios-requires c κs = search needs
 
 returns : tie.Need-returns
-returns c = new-run (c .before .args .n) (c .before .pre) (c .new-flood .ensures)
+returns c = new-run (c .before .args .n) (c .before .pre) (c .new-radios .ensures)
 
 pub new-run-spec : {M : Type 1} → statement M
-new-run-spec = tie.close (tie.spec new-flood-requires returns)
+new-run-spec = tie.close (tie.spec new-radios-requires returns)

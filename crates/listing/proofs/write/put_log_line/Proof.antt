@@ -5,8 +5,8 @@ use Rattle.config.specs.Limits.{maxTerms}
 use Rattle.listing.specs.Ascii.{ascii}
 use Rattle.listing.specs.Listing.{labelled, logLine}
 use Rattle.listing.proofs.Overlays.{_then_}
-use Rattle.listing.proofs.write.put_log.Statement.{statement}
-use Rattle.listing.proofs.write.put_log.Tie as tie
+use Rattle.listing.proofs.write.put_log_line.Statement.{statement}
+use Rattle.listing.proofs.write.put_log_line.Tie as tie
 
 returns : tie.Need-returns
 unfolding logLine labelled ascii
@@ -18,8 +18,8 @@ returns c =
     let count = smaller .smaller .ensures ∙ ap (λ k. min k maxTerms) (logged .byte-at .ensures) in
     node .put-labelled .ensures then rw count at (terms .put-terms .ensures) then c .before .before .put .ensures
 
-pub put-log-spec : {M : Type 1} → statement M
-put-log-spec =
+pub put-log-line-spec : {M : Type 1} → statement M
+put-log-line-spec =
     tie.close
     (tie.spec
     (λ c. search needs) (λ c κs. search needs) (λ c. search needs) (λ c κs. search needs)

@@ -3,8 +3,8 @@ use borrow.Author.Needs.{needs}
 use Rattle.listing.specs.Ascii.{ascii}
 use Rattle.listing.specs.Listing.{labelled, snapshotLine}
 use Rattle.listing.proofs.Overlays.{_then_}
-use Rattle.listing.proofs.write.put_snapshot.Statement.{statement}
-use Rattle.listing.proofs.write.put_snapshot.Tie as tie
+use Rattle.listing.proofs.write.put_snapshot_line.Statement.{statement}
+use Rattle.listing.proofs.write.put_snapshot_line.Tie as tie
 
 put-requires : tie.Need-put-requires
 put-requires c κs = omega (arith, c .before .before .before .before .before .before .before .before .before .before .before .before)
@@ -30,8 +30,8 @@ returns c =
       fifth .number-at5 .ensures,
     ) at all
 
-pub put-snapshot-spec : {M : Type 1} → statement M
-put-snapshot-spec =
+pub put-snapshot-line-spec : {M : Type 1} → statement M
+put-snapshot-line-spec =
     tie.close
     (tie.spec
     (λ c. search needs) (λ c κs. search needs) (λ c. search needs) (λ c. search needs)

@@ -2,8 +2,8 @@ use borrow.Author.Needs.{needs}
 use Rattle.listing.specs.Ascii.{ascii}
 use Rattle.listing.specs.Listing.{labelled, proposalLine}
 use Rattle.listing.proofs.Overlays.{_then_}
-use Rattle.listing.proofs.write.put_record.Statement.{statement}
-use Rattle.listing.proofs.write.put_record.Tie as tie
+use Rattle.listing.proofs.write.put_proposal_line.Statement.{statement}
+use Rattle.listing.proofs.write.put_proposal_line.Tie as tie
 
 returns : tie.Need-returns
 unfolding proposalLine labelled ascii
@@ -19,8 +19,8 @@ returns c =
     then last .put-spaced3 .ensures then c .before .before .put .ensures in
     rw (latency .latency .ensures, start .before .number-at .ensures, start .number-at2 .ensures, end .number-at3 .ensures) at all
 
-pub put-record-spec : {M : Type 1} → statement M
-put-record-spec =
+pub put-proposal-line-spec : {M : Type 1} → statement M
+put-proposal-line-spec =
     tie.close
     (tie.spec
     (λ c. search needs) (λ c κs. search needs) (λ c. search needs) (λ c. search needs)

@@ -1,5 +1,5 @@
 -- Bounds on the counts of every accepted run (rule 12.5).
-use Prim.Native.Nat.{ℕ, _+_, _-_, _*_, _/_, _^_, _≤_, _<_}
+use Prim.Native.Nat.{ℕ, _+_, _-_, _*_, _/_, _≤_, _<_}
 use mathlib.Core.List.{List}
 use mathlib.Core.Path.{_≡_}
 use Rattle.config.specs.Limits.{maxTerms, maxRoundSlots, mostRounds, countBound}
