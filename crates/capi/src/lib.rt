@@ -11,7 +11,7 @@ use metrics::ratio::ratio;
 use metrics::ratios::flood_coverage;
 use metrics::ratios::link_pdr;
 use network::distance::Measured;
-use network::distance::diameter;
+use network::distance::measure;
 use network::topology::Built;
 use network::topology::rows;
 use random::draws::draws;
@@ -73,7 +73,7 @@ pub extern "C" fn ctsim_diameter(rows: &[u32], n: u64, links: &mut [u64]) -> u64
     if links.len() < 1 {
         return SHORT;
     }
-    let measured = diameter(rows, n);
+    let measured = measure(rows, n);
     match measured {
         Measured::Refused(k) => k,
         Measured::Links(d) => {

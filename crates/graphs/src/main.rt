@@ -31,7 +31,7 @@ fn checksum(rows: &[u32; MAX_NODES], n: usize) -> u64 {
 }
 
 fn put_diameter(rows: &[u32], n: u64) {
-    match network::distance::diameter(rows, n) {
+    match network::distance::measure(rows, n) {
         Measured::Links(d) => put_number(d as u64),
         Measured::Refused(k) => {
             put(b" refused");

@@ -18,7 +18,7 @@ pub enum Measured {
 }
 
 // The nodes that a link joins to one of `edge`: the union of the rows of its nodes.
-fn neighbours(rows: &[u64; MAX_NODES], n: usize, edge: u64) -> u64
+fn linked_to(rows: &[u64; MAX_NODES], n: usize, edge: u64) -> u64
     requires { ⌜ (n ≤ maxNodes) × (Checked (now rows) n × (edge < 2 ^ n)) ⌝ }
     ensures { λ r. ⌜ r ≡ setOf n (λ j. any n (λ i. has edge i && linked (now (rows .entry)) i j)) ⌝ }
 {
@@ -44,7 +44,7 @@ pub fn eccentricity(rows: &[u64; MAX_NODES], n: usize, a: NodeId) -> usize
     let mut k = 0;
     let all = graph::full_set(n);
     while reached != all {
-        let next = reached | neighbours(rows, n, edge);
+        let next = reached | linked_to(rows, n, edge);
         if next == reached {
             return k;
         }
@@ -73,8 +73,8 @@ pub fn diameter_of(rows: &[u64; MAX_NODES], n: usize) -> usize
     greatest
 }
 
-// The diameter of n nodes with the given rows.
-pub fn diameter(rows: &[u32], n: u64) -> Measured
+// The diameter of n nodes with the given rows, after questions 2 and 4.
+pub fn measure(rows: &[u32], n: u64) -> Measured
     ensures { λ r. ⌜ r ≡ measured (now (rows .entry)) n ⌝ }
 {
     if !lies_in(MIN_NODES, MAX_NODES as u64, n) {

@@ -3,7 +3,7 @@
 use network::units::NodeId;
 use network::units::Term;
 
-// The last accepted term that a node knows of, or none.
+// The term up to which terms are accepted, or none: as a node or a packet has it, or as a quorum gives it.
 pub enum LastAccepted {
     None,
     At(Term),

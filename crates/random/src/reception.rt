@@ -5,13 +5,13 @@ use super::draws::STREAM_SIZE;
 use super::draws::next_draw;
 
 // 2^-53.
-const STEP: f64 = 1.1102230246251565e-16;
+const FRACTION_STEP: f64 = 1.1102230246251565e-16;
 
 // m / 2^53, with m the draw's top 53 bits.
 pub fn fraction(draw: u64) -> f64
     ensures { λ r. ⌜ r ≡ fractionOf draw ⌝ }
 {
-    ((draw >> 11) as f64) * STEP
+    ((draw >> 11) as f64) * FRACTION_STEP
 }
 
 // One attempt, of number k, at a loss rate. Where the rate is 0, nothing is lost and no draw is taken.

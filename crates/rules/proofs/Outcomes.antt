@@ -1,4 +1,4 @@
--- What the answer of `diameter` says of the questions, and the outcome after each graph's own. Assumes nothing.
+-- What the answer of `measure` says of the questions, and the outcome after each graph's own. Assumes nothing.
 use Prim.Native.Nat.{ℕ}
 use mathlib.Core.Path.{_≡_, refl, sym, ap, ap₂, _∙_}
 use mathlib.Core.List.{List}

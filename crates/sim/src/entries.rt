@@ -4,8 +4,8 @@ use super::run::Plan;
 use config::Config;
 use config::limits::MAX_NODES;
 use network::distance::Measured;
-use network::distance::diameter;
 use network::distance::diameter_of;
+use network::distance::measure;
 use network::graph::widen;
 use network::topology::Built;
 use network::topology::build_graph;
@@ -60,7 +60,7 @@ pub fn run_rows(
         outcome r (now (logs .exit)) (now (records .exit)) (now (snapshots .exit))
         ≡ runOfRows (now (rows .entry)) n config (now (logs .entry)) (now (records .entry)) (now (snapshots .entry)) ⌝ }
 {
-    let measured = diameter(rows, n);
+    let measured = measure(rows, n);
     match measured {
         Measured::Refused(k) => Answer::Refused(k),
         Measured::Links(d) => {

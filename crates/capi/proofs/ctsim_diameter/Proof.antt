@@ -6,8 +6,8 @@ use Rattle.capi.proofs.ctsim_diameter.Tie as tie
 returns : tie.Need-returns
 returns c = diameter-short _ _ _ (c .if1 .taken)
 
-diameter-requires : tie.Need-diameter-requires
-diameter-requires c κs = search needs
+measure-requires : tie.Need-measure-requires
+measure-requires c κs = search needs
 
 enum-known-measured : tie.Need-enum-known-measured
 enum-known-measured c = search needs
@@ -19,20 +19,20 @@ slice-write-links : tie.Need-slice-write-links
 slice-write-links c = search needs
 
 returns-2 : tie.Need-returns-2
-returns-2 c = diameter-returned _ _ _ (c .before .before .before .before .if1 .left) _ _ (c .before .measured .given .1) (c .before .before .before .diameter .ensures)
+returns-2 c = diameter-returned _ _ _ (c .before .before .before .before .if1 .left) _ _ (c .before .measured .given .1) (c .before .before .before .measure .ensures)
 
 same-length : tie.Need-same-length
 same-length c = search needs
 
 returns-3 : tie.Need-returns-3
-returns-3 c = diameter-returned _ _ _ (c .before .before .before .before .if1 .left) _ _ (c .before .measured2 .given .1) (c .before .before .before .diameter .ensures)
+returns-3 c = diameter-returned _ _ _ (c .before .before .before .before .if1 .left) _ _ (c .before .measured2 .given .1) (c .before .before .before .measure .ensures)
 
 pub ctsim-diameter-spec : {M : Type 1} → statement M
 ctsim-diameter-spec =
     tie.close
     (tie.spec
     returns
-    diameter-requires
+    measure-requires
     enum-known-measured
     enum-known-measured-2
     slice-write-links

@@ -36,15 +36,15 @@ loop-holds c =
     let one = one-shl 64 (c .before .args .a .0) (omega arith) in
     (one, below-none _, record { small = rw one (pow-lt (c .before .pre .1 .1)); holds = λ i j _ _ _ _. refl })
 
-neighbours-requires : tie.Need-neighbours-requires Inv-loop μ-loop
-neighbours-requires c κs =
+linked-to-requires : tie.Need-linked-to-requires Inv-loop μ-loop
+linked-to-requires c κs =
     let b = c .before in
     let p = b .before .before .pre in
     (p .0, (p .1 .0, b .loop .inv .2 .small))
 
 -- what a step reaches, and its edge
-step : (c : tie.After-neighbours Inv-loop μ-loop)
-    → let b = c .before .before in let a = b .before .before .args in let next = bitOr (b .loop .reached) (c .neighbours .result) in
+step : (c : tie.After-linked-to Inv-loop μ-loop)
+    → let b = c .before .before in let a = b .before .before .args in let next = bitOr (b .loop .reached) (c .linked-to .result) in
     (next ≡ reach (a .rows .now) (a .n) (a .a .0) (suc (b .loop .k))) × Edge (a .rows .now) (a .n) next (next - b .loop .reached)
 unfolding reach touches
 step c =
@@ -52,8 +52,8 @@ step c =
     let a = b .before .before .args in
     let i = b .loop .inv in
     let small : b .loop .reached < 2 ^ a .n = rw (i .0) (reach-lt (a .rows .now) (a .n) (a .a .0) (b .before .before .pre .1 .1) (b .loop .k)) in (
-      edge-spread (a .rows .now) (a .n) small (i .2) (c .neighbours .ensures) ∙ ap (spread (a .rows .now) (a .n)) (i .0),
-      edge-next (a .rows .now) (a .n) small (i .2) (c .neighbours .ensures),
+      edge-spread (a .rows .now) (a .n) small (i .2) (c .linked-to .ensures) ∙ ap (spread (a .rows .now) (a .n)) (i .0),
+      edge-next (a .rows .now) (a .n) small (i .2) (c .linked-to .ensures),
     )
 
 returns : tie.Need-returns Inv-loop μ-loop
@@ -69,7 +69,7 @@ returns c =
 sub-edge : tie.Need-sub-edge Inv-loop μ-loop
 sub-edge c =
     let r = c .before .before .before .loop .reached in
-    omega (arith, or-add-and r (c .before .neighbours .result), and-le-r r (c .before .neighbours .result))
+    omega (arith, or-add-and r (c .before .linked-to .result), and-le-r r (c .before .linked-to .result))
 
 add-k : tie.Need-add-k Inv-loop μ-loop
 add-k c = omega (arith, short (c .before .before .before))
@@ -101,5 +101,5 @@ pub eccentricity-spec : {M : Type 1} → statement M
 eccentricity-spec =
     tie.close
     (tie.spec
-    Inv-loop μ-loop (λ c. search needs) (λ c κs. search needs) loop-holds neighbours-requires returns
+    Inv-loop μ-loop (λ c. search needs) (λ c κs. search needs) loop-holds linked-to-requires returns
     sub-edge add-k loop-less loop-again returns-2)

@@ -14,13 +14,13 @@ use Rattle.sim.proofs.entries.run_rows.Statement.{statement}
 use Rattle.sim.proofs.entries.run_rows.Tie as tie
 
 -- the start, from where the rows were measured
-abbrev start : tie.After-diameter → tie.Start
+abbrev start : tie.After-measure → tie.Start
 start c = c .before .before .before .before .before
 
 -- past questions 2 and 4
 links : (c : tie.After-measured2) → let a = start (c .before .before) .args in
     (firstNo (rowsQuestions (now (a .rows)) (a .n)) ≡ none) × (c .measured2 .given .0 .0 ≡ diameter (now (a .rows)) (a .n))
-links c = let a = start (c .before .before) .args in measured-links (now (a .rows)) (a .n) _ (sym (c .measured2 .given .1) ∙ c .before .before .diameter .ensures)
+links c = let a = start (c .before .before) .args in measured-links (now (a .rows)) (a .n) _ (sym (c .measured2 .given .1) ∙ c .before .before .measure .ensures)
 
 widen-requires : tie.Need-widen-requires
 widen-requires c κs =
@@ -40,7 +40,7 @@ returns : tie.Need-returns
 returns c =
     let a = start (c .before .before .before) .args in
     rows-refused (now (a .rows)) (a .n) (a .config) (now (a .logs)) (now (a .records)) (now (a .snapshots)) _
-    (measured-refused (now (a .rows)) (a .n) _ (sym (c .before .measured .given .1) ∙ c .before .before .before .diameter .ensures))
+    (measured-refused (now (a .rows)) (a .n) _ (sym (c .before .measured .given .1) ∙ c .before .before .before .measure .ensures))
 
 returns-2 : tie.Need-returns-2
 returns-2 c =

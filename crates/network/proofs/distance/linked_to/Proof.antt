@@ -1,4 +1,4 @@
--- `network::distance::neighbours` meets its contract: before each turn it holds the union of the rows of the nodes of `edge` that are passed, those below m.
+-- `network::distance::linked_to` meets its contract: before each turn it holds the union of the rows of the nodes of `edge` that are passed, those below m.
 -- Assumes nothing.
 use mathlib.Core.Path.{_≡_, subst, _∙_}
 use Prim.Native.Nat.{ℕ, _≤_, _<_, _+_, _^_, zero-le}
@@ -11,8 +11,8 @@ use Rattle.network.specs.Graph.{has, any}
 use Rattle.network.proofs.Sets.{has-out, has-below}
 use Rattle.network.proofs.Lowest.{Walked, Next, walked-none, walked-next, walked-all, nonzero}
 use Rattle.network.proofs.Spread.{touches, touches-stop, touches-or, touches-is}
-use Rattle.network.proofs.distance.neighbours.Statement.{statement}
-use Rattle.network.proofs.distance.neighbours.Tie as tie
+use Rattle.network.proofs.distance.linked_to.Statement.{statement}
+use Rattle.network.proofs.distance.linked_to.Tie as tie
 
 abbrev Inv-loop : tie.InvT-loop
 Inv-loop rows n edge found₀ rest₀ found rest = (m : ℕ) × (m ≤ n) × Walked edge rest m × (found < 2 ^ n) × ((j : ℕ) → has found j ≡ touches rows edge m j)
@@ -69,8 +69,8 @@ returns c =
     touches-is (a .rows .now) (a .edge) (a .n) (l .found) (l .inv .3)
     (λ j. l .inv .4 j ∙ touches-stop (a .rows .now) (a .edge) j (l .inv .1) (λ i m _. walked-all done i m))
 
-pub neighbours-spec : {M : Type 1} → statement M
-neighbours-spec =
+pub linked-to-spec : {M : Type 1} → statement M
+linked-to-spec =
     tie.close
     (tie.spec
     Inv-loop μ-loop loop-holds cast-t mul-found element-copy-out-found sub-rest loop-less loop-again

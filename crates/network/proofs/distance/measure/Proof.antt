@@ -1,4 +1,4 @@
--- `network::distance::diameter` meets its contract: the tests give questions 2 and 4, the copy of the first n rows is right and has the same diameter where the rows do.
+-- `network::distance::measure` meets its contract: the tests give questions 2 and 4, the copy of the first n rows is right and has the same diameter where the rows do.
 -- Assumes nothing.
 use mathlib.Core.Path.{_≡_, sym, ap, subst, _∙_}
 use mathlib.Core.Bool.{true}
@@ -15,8 +15,8 @@ use Rattle.network.proofs.Within.{within-both}
 use Rattle.network.proofs.Rows.{getD-widened, length-widened}
 use Rattle.network.proofs.Checks.{right-agree, right-checked, agree-checked, diameter-agree}
 use borrow.Author.Needs.{needs}
-use Rattle.network.proofs.distance.diameter.Statement.{statement}
-use Rattle.network.proofs.distance.diameter.Tie as tie
+use Rattle.network.proofs.distance.measure.Statement.{statement}
+use Rattle.network.proofs.distance.measure.Tie as tie
 
 returns : tie.Need-returns
 unfolding measured
@@ -89,8 +89,8 @@ returns-4 c =
     ∙ ap (λ (l : List ℕ). diameter l (a .n)) (copy r)
     ∙ sym (diameter-agree (a .rows .now) (widened (a .rows .now) (a .n)) (a .n) (copied q))))
 
-pub diameter-spec : {M : Type 1} → statement M
-diameter-spec =
+pub measure-spec : {M : Type 1} → statement M
+measure-spec =
     tie.close
     (tie.spec
     (λ c κs. search needs) returns returns-2 widen-requires rows-right-requires returns-3
