@@ -11,10 +11,11 @@ use Rattle.pipeline.specs.View.{statesOf, recordsOf, sharedOf}
 use Rattle.rules.specs.Run.{run}
 use Rattle.rules.specs.Answers.{ran}
 use Rattle.rules.specs.Entries.{summaryOf, logsWith, recordNumbers, ranWith}
-use Rattle.sim.specs.declared.run.Plan.{Plan}
-use Rattle.sim.specs.declared.run.Stopped.{Stopped}
-use Rattle.sim.specs.Going.{planned, Stops, summaryFrom}
-use Rattle.sim.proofs.Underway.{states-are, count-is}
+use Rattle.rounds.specs.declared.run.Plan.{Plan}
+use Rattle.rounds.specs.declared.run.Stopped.{Stopped}
+use Rattle.rounds.specs.Going.{planned, Stops}
+use Rattle.sim.specs.Filling.{summaryFrom}
+use Rattle.rounds.proofs.Underway.{states-are, count-is}
 
 module _ {graph : List ℕ} {p : Plan} {r : Stopped} {b₀ states history snapshots : List ℕ}
     (e : Stops graph p (mostRounds (p .config .«num_proposals»)) r b₀ states history snapshots) where

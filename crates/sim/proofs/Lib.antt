@@ -1,7 +1,3 @@
 -- The laws that several proofs of the crate use.
-pub mod Full
 pub mod Copies
-pub mod Beginning
-pub mod Rounds
-pub mod Underway
 pub mod Filled

@@ -1,2 +1,2 @@
--- What the code of the run stands for.
-pub mod Going
+-- What the buffers of a run need.
+pub mod Filling

@@ -1,6 +1,6 @@
 // The public entries: a run of rows, and a run of a topology.
 use super::outcome::run_pipeline;
-use super::run::Plan;
+use rounds::run::Plan;
 use config::Config;
 use config::limits::MAX_NODES;
 use network::distance::Measured;

@@ -1,6 +1,4 @@
-// The run of the pipeline: its rounds, and what it leaves in the lent buffers.
+// The run of the pipeline: what it answers, what it leaves in the lent buffers, and its two entries.
 mod buffers;
 pub mod entries;
 mod outcome;
-mod run;
-mod survey;

@@ -1,9 +1,9 @@
 // A run that no question refuses: its summary, and the buffers filled once it has stopped.
 use super::buffers::write_logs;
 use super::buffers::write_records;
-use super::run::Plan;
-use super::run::Stopped;
-use super::run::play;
+use rounds::run::Plan;
+use rounds::run::Stopped;
+use rounds::run::play;
 use config::limits::ENOUGH_ROUNDS;
 use config::limits::MAX_NODES;
 use metrics::summary::Summary;
@@ -20,7 +20,8 @@ ghost use Rattle.config.specs.Limits.{maxNodes, maxTerms, mostRounds};
 ghost use Rattle.pipeline.specs.View.{tableSize};
 ghost use Rattle.rules.specs.Answers.{ran};
 ghost use Rattle.rules.specs.Entries.{ranWith};
-ghost use Rattle.sim.specs.Going.{planned, CanFill, summaryFrom};
+ghost use Rattle.rounds.specs.Going.{planned};
+ghost use Rattle.sim.specs.Filling.{CanFill, summaryFrom};
 
 // The summary of a run that has stopped.
 fn summary_of(end: Stopped, n: usize) -> Summary

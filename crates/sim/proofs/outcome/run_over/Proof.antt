@@ -2,7 +2,7 @@ use native.Mathlib.Omega.{arith}
 use borrow.Author.Needs.{needs}
 use denote.Ref.{now}
 use Rattle.pipeline.proofs.Recordings.{records-few}
-use Rattle.sim.proofs.Underway.{kept-all}
+use Rattle.rounds.proofs.Underway.{kept-all}
 use Rattle.sim.proofs.Filled.{finishes}
 use Rattle.sim.proofs.outcome.run_over.Statement.{statement}
 use Rattle.sim.proofs.outcome.run_over.Tie as tie

@@ -2,7 +2,7 @@ use Prim.Native.Nat.{ℕ}
 use mathlib.Core.Path.{ap}
 use borrow.Author.Needs.{needs}
 use lib.ListN.{replicate}
-use Rattle.sim.proofs.Beginning.{table-few, table-some, table-all}
+use Rattle.rounds.proofs.Beginning.{table-few, table-some, table-all}
 use Rattle.sim.proofs.outcome.run_pipeline.Statement.{statement}
 use Rattle.sim.proofs.outcome.run_pipeline.Tie as tie
 

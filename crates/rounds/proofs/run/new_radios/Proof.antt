@@ -1,7 +1,7 @@
 use borrow.Author.Needs.{needs}
-use Rattle.sim.proofs.Beginning.{new-radios}
-use Rattle.sim.proofs.run.new_radios.Statement.{statement}
-use Rattle.sim.proofs.run.new_radios.Tie as tie
+use Rattle.rounds.proofs.Beginning.{new-radios}
+use Rattle.rounds.proofs.run.new_radios.Statement.{statement}
+use Rattle.rounds.proofs.run.new_radios.Tie as tie
 
 full-set-requires : tie.Need-full-set-requires
 full-set-requires c κs = search needs

@@ -7,7 +7,7 @@ ghost use mathlib.Core.Path.{_≡_};
 ghost use Prim.Native.Nat.{_≤_, min};
 ghost use Rattle.config.specs.Limits.{maxTerms};
 ghost use Rattle.network.specs.Graph.{has, all};
-ghost use Rattle.sim.specs.Going.{CanSurvey, Surveys};
+ghost use Rattle.rounds.specs.Going.{CanSurvey, Surveys};
 
 // The length of the shortest log, and whether all logs hold every proposal.
 pub struct Surveyed {

@@ -32,8 +32,8 @@ use Rattle.pipeline.specs.Round.{recorded}
 use Rattle.pipeline.specs.View.{fewNodes, someNodes, historySize, Recording, Sharing, statesOf, recordsOf, sharedOf, tableSize}
 use Rattle.rules.specs.Run.{Given, begin}
 use Rattle.rules.proofs.Sums.{sum-new}
-use Rattle.sim.specs.Going.{NewRadios, NewRun}
-use Rattle.sim.proofs.Full.{full-set}
+use Rattle.rounds.specs.Going.{NewRadios, NewRun}
+use Rattle.rounds.proofs.Full.{full-set}
 
 -- ---- sets
 

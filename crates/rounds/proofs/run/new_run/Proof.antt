@@ -1,7 +1,7 @@
 use borrow.Author.Needs.{needs}
-use Rattle.sim.proofs.Beginning.{new-run}
-use Rattle.sim.proofs.run.new_run.Statement.{statement}
-use Rattle.sim.proofs.run.new_run.Tie as tie
+use Rattle.rounds.proofs.Beginning.{new-run}
+use Rattle.rounds.proofs.run.new_run.Statement.{statement}
+use Rattle.rounds.proofs.run.new_run.Tie as tie
 
 new-radios-requires : tie.Need-new-radios-requires
 new-radios-requires c κs = search needs

@@ -3,9 +3,9 @@ use mathlib.Core.Path.{ap, _∙_}
 use borrow.Author.Needs.{needs}
 use lib.Bits.{bitAnd, and-mask}
 use lib.Dec.{eqb}
-use Rattle.sim.proofs.Full.{has-all}
-use Rattle.sim.proofs.survey.logs_all.Statement.{statement}
-use Rattle.sim.proofs.survey.logs_all.Tie as tie
+use Rattle.rounds.proofs.Full.{has-all}
+use Rattle.rounds.proofs.survey.logs_all.Statement.{statement}
+use Rattle.rounds.proofs.survey.logs_all.Tie as tie
 
 full-set-requires : tie.Need-full-set-requires
 full-set-requires c κs = search needs

@@ -20,9 +20,9 @@ use Rattle.pipeline.specs.Round.{stateOf, shortestFrom}
 use Rattle.rules.specs.Run.{complete}
 use Rattle.pipeline.specs.View.{AllKept, statesOf}
 use Rattle.pipeline.proofs.Sharing.{state-at, log-length}
-use Rattle.sim.proofs.Full.{all-and}
-use Rattle.sim.proofs.survey.survey.Statement.{statement}
-use Rattle.sim.proofs.survey.survey.Tie as tie
+use Rattle.rounds.proofs.Full.{all-and}
+use Rattle.rounds.proofs.survey.survey.Statement.{statement}
+use Rattle.rounds.proofs.survey.survey.Tie as tie
 
 -- what is counted from k is at most k
 shortest-le : (k : ℕ) (states : List State) (m : ℕ) → shortestFrom k states m ≤ k

@@ -22,9 +22,9 @@ use Rattle.rules.specs.Accepted.{Accepted}
 use Rattle.rules.specs.Run.{Given, Running, setupOf, preparedIn, floodedIn, runRound}
 use Rattle.rules.proofs.Coverage.{covered-part}
 use Rattle.rules.proofs.Rounds.{longest-few, covered-few}
-use Rattle.sim.specs.declared.run.Plan.{Plan}
-use Rattle.sim.specs.declared.run.Run.{Run}
-use Rattle.sim.specs.Going.{planned, settingsOf, Workspace, workspace, lentOf, Shows, Steady, Going, Plays}
+use Rattle.rounds.specs.declared.run.Plan.{Plan}
+use Rattle.rounds.specs.declared.run.Run.{Run}
+use Rattle.rounds.specs.Going.{planned, settingsOf, Workspace, workspace, lentOf, Shows, Steady, Going, Plays}
 
 -- how many nodes took part, counted in the word
 ones-part : (g : Given) (k : ℕ) (r : Running) → ones (floodedIn g k r .part) ≡ count (g .nodes) (has (floodedIn g k r .part))

@@ -22,12 +22,12 @@ use Rattle.rules.specs.Run.{Given, Running, Ended, begin, runRound, complete, e
 use Rattle.rules.proofs.Coverage.{held-begin, held-round}
 use Rattle.rules.proofs.Ends.{from-limit, from-next, from-end, shortest-new}
 use Rattle.rules.proofs.Rounds.{rounds-more}
-use Rattle.sim.specs.declared.run.Plan.{Plan}
-use Rattle.sim.specs.declared.run.Run.{Run}
-use Rattle.sim.specs.declared.run.Played.{Played}
-use Rattle.sim.specs.declared.run.Stopped.{Stopped}
-use Rattle.sim.specs.declared.survey.Surveyed.{Surveyed}
-use Rattle.sim.specs.Going.{planned, settingsOf, Workspace, Shows, Steady, Plays, Surveys, CanGo, Underway, Goes, NewRun}
+use Rattle.rounds.specs.declared.run.Plan.{Plan}
+use Rattle.rounds.specs.declared.run.Run.{Run}
+use Rattle.rounds.specs.declared.run.Played.{Played}
+use Rattle.rounds.specs.declared.run.Stopped.{Stopped}
+use Rattle.rounds.specs.declared.survey.Surveyed.{Surveyed}
+use Rattle.rounds.specs.Going.{planned, settingsOf, Workspace, Shows, Steady, Plays, Surveys, CanGo, Underway, Goes, NewRun}
 
 -- ---- what the code shows
 

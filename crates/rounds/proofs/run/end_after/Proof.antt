@@ -1,7 +1,7 @@
 use borrow.Author.Tests.{lt-ltb, le-ltb}
 use borrow.Author.Needs.{needs}
-use Rattle.sim.proofs.run.end_after.Statement.{statement}
-use Rattle.sim.proofs.run.end_after.Tie as tie
+use Rattle.rounds.proofs.run.end_after.Statement.{statement}
+use Rattle.rounds.proofs.run.end_after.Tie as tie
 
 mul-recorded : tie.Need-mul-recorded
 mul-recorded c = search needs

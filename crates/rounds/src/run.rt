@@ -26,7 +26,7 @@ ghost use mathlib.Core.Bool.{cond, _&&_};
 ghost use lib.Dec.{eqb, ltb};
 ghost use Prim.Native.Nat.{_+_, _*_, _≤_};
 ghost use Rattle.config.specs.Limits.{maxNodes, maxTerms, maxRepeats, roundsPerLink, extraRounds};
-ghost use Rattle.sim.specs.Going.{settingsOf, workspace, CanPlay, Plays, CanStart, CanGo, Goes, Stops, NewRadios, NewRun};
+ghost use Rattle.rounds.specs.Going.{settingsOf, workspace, CanPlay, Plays, CanStart, CanGo, Goes, Stops, NewRadios, NewRun};
 
 // What a run is given beside the rows of its graph.
 pub struct Plan {

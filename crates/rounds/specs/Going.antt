@@ -4,7 +4,7 @@ use mathlib.Core.Path.{_≡_}
 use mathlib.Core.Bool.{Bool}
 use mathlib.Core.List.{List}
 use lib.ListN.{length, replicate}
-use Rattle.config.specs.Limits.{maxNodes, maxTerms, maxRepeats, maxRoundSlots, mostRounds, logSize, recordsSize}
+use Rattle.config.specs.Limits.{maxNodes, maxTerms, maxRepeats, maxRoundSlots, mostRounds}
 use Rattle.random.specs.Draws.{DrawNext}
 use Rattle.random.specs.Reception.{Source}
 use Rattle.phy.specs.declared.slot.Settings.{Settings}
@@ -12,16 +12,15 @@ use Rattle.phy.specs.declared.slot.Radios.{Radios}
 use Rattle.phy.specs.View.{Tables, tables, Sound, Stands}
 use Rattle.pipeline.specs.Round.{shortestLog}
 use Rattle.pipeline.specs.View.{AllKept, statesOf, Sharing, sharedOf, tableSize, historySize}
-use Rattle.metrics.specs.declared.summary.Summary.{Summary}
 use Rattle.rules.specs.Accepted.{Accepted}
 use Rattle.rules.specs.Coverage.{HeldPackets}
 use Rattle.rules.specs.Entries.{givenAs}
 use Rattle.rules.specs.Run.{Given, Running, begin, complete, preparedIn, floodedIn, runRound, roundsFrom, runFor}
-use Rattle.sim.specs.declared.run.Plan.{Plan}
-use Rattle.sim.specs.declared.run.Run.{Run}
-use Rattle.sim.specs.declared.run.Played.{Played}
-use Rattle.sim.specs.declared.run.Stopped.{Stopped}
-use Rattle.sim.specs.declared.survey.Surveyed.{Surveyed}
+use Rattle.rounds.specs.declared.run.Plan.{Plan}
+use Rattle.rounds.specs.declared.run.Run.{Run}
+use Rattle.rounds.specs.declared.run.Played.{Played}
+use Rattle.rounds.specs.declared.run.Stopped.{Stopped}
+use Rattle.rounds.specs.declared.survey.Surveyed.{Surveyed}
 
 -- the run of a graph that a plan asks for
 abbrev pub planned : List ℕ → Plan → Given
@@ -168,33 +167,3 @@ pub record NewRun (n : ℕ) (x : Run) : Type 0 where
   pub progress : x .progress ≡ 0
   pub nacks : x .carry .nacks ≡ 0
   pub piggybacks : x .carry .piggybacks ≡ 0
-
--- ---- the run with its buffers
-
--- an accepted run whose buffers are long enough
-pub record CanFill (graph : List ℕ) (p : Plan) (logs records : List ℕ) : Type 0 where
-  pub accepted : Accepted (planned graph p)
-  pub logs-long : logSize ≤ length logs
-  pub records-long : recordsSize ≤ length records
-
--- the summary of a run that has stopped, from what the code counted
-abbrev pub summaryFrom : ℕ → Stopped → Summary
-summaryFrom n e =
-    record {
-      nodes = n;
-      rounds = e .rounds;
-      slots = e .run .flood .slot .0;
-      ended = e .ended;
-      listen = e .run .flood .«slots_listen»;
-      flood = e .run .flood .«slots_flood»;
-      sleep = e .run .flood .«slots_sleep»;
-      attempts = e .run .flood .attempts;
-      successes = e .run .flood .successes;
-      «flood_rounds» = e .rounds;
-      «flood_nodes» = n * e .rounds;
-      covered = e .run .covered;
-      nacks = e .run .carry .nacks;
-      piggybacks = e .run .carry .piggybacks;
-      records = e .run .carry .recorded .count;
-      snapshots = e .run .flood .snapshots;
-    }

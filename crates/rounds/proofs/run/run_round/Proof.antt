@@ -4,9 +4,9 @@ use borrow.Author.Needs.{needs}
 use native.Mathlib.Omega.{arith}
 use lib.Count.{ones}
 use Rattle.config.specs.Limits.{maxNodes}
-use Rattle.sim.proofs.Rounds.{may-prepare, can-flood, may-process, covered-fits, round-plays}
-use Rattle.sim.proofs.run.run_round.Statement.{statement}
-use Rattle.sim.proofs.run.run_round.Tie as tie
+use Rattle.rounds.proofs.Rounds.{may-prepare, can-flood, may-process, covered-fits, round-plays}
+use Rattle.rounds.proofs.run.run_round.Statement.{statement}
+use Rattle.rounds.proofs.run.run_round.Tie as tie
 
 -- the places of the calls, and of the start
 abbrev start : tie.After-prepare-round → tie.Start

@@ -3,10 +3,10 @@ use mathlib.Core.Path.{_≡_, sym, ap, _∙_}
 use native.Mathlib.Omega.{arith}
 use denote.Ref.{now}
 use lib.ListN.{length, length-replicate}
-use Rattle.sim.specs.Going.{workspace, Underway}
-use Rattle.sim.proofs.Underway.{underway-new, used-up, at-limit, at-end, goes-on, kept-all, same-size}
-use Rattle.sim.proofs.run.play_rounds.Statement.{statement}
-use Rattle.sim.proofs.run.play_rounds.Tie as tie
+use Rattle.rounds.specs.Going.{workspace, Underway}
+use Rattle.rounds.proofs.Underway.{underway-new, used-up, at-limit, at-end, goes-on, kept-all, same-size}
+use Rattle.rounds.proofs.run.play_rounds.Statement.{statement}
+use Rattle.rounds.proofs.run.play_rounds.Tie as tie
 
 abbrev Inv-loop : tie.InvT-loop
 Inv-loop graph plan most queue₀ stream₀ states₀ history₀ snapshots₀ config proposals x₀ k₀ queue stream states history snapshots x k =

@@ -1,0 +1,2 @@
+-- What the code of the rounds stands for.
+pub mod Going

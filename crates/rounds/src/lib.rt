@@ -1,0 +1,3 @@
+// The rounds of a run, up to its end.
+pub mod run;
+mod survey;
