@@ -18,9 +18,10 @@ use Rattle.network.proofs.Sets.{and-both}
 use Rattle.config.specs.declared.Config.{Config}
 use Rattle.rules.specs.declared.answer.Answer.{Answer}
 use Rattle.metrics.specs.declared.ratios.Ratio.{Ratio}
-use Rattle.rules.specs.Questions.{runQuestions, rowsRefusal, topologyRefusal}
+use Rattle.rules.specs.Networks.{RowsOrTopology, ofRows, ofTopology, networkQuestions}
+use Rattle.rules.specs.Questions.{runQuestions, runRefusalFor}
 use Rattle.rules.specs.Run.{Given}
-use Rattle.rules.specs.Entries.{outcomeOf, ranWith, runOfRows, runOfTopology}
+use Rattle.rules.specs.Entries.{outcomeOf, ranWith, outcomeFor}
 use Rattle.metrics.specs.Ratio.{ratioOf, question11, quotient}
 
 -- the questions' numbers are above 0 and below 100
@@ -44,14 +45,13 @@ unfolding ranWith
 outcome-numbered none g logs records snapshots k e = let z : _≡_ {A = ℕ} 0 1 = cc in absurd (omega arith)
 outcome-numbered (some j) g logs records snapshots k e = cc
 
-module _ (c : Config) (logs records snapshots : List ℕ) (k : ℕ) where
-  pub topology-numbered : (topology first second : ℕ) → runOfTopology topology first second c logs records snapshots .answer ≡ Answer.Refused k → within 1 99 k ≡ true
-  unfolding runOfTopology topologyRefusal
-  topology-numbered topology first second e = first-numbered (topologyQuestions topology first second ++ runQuestions c (length logs) (length records)) k refl (outcome-numbered _ _ logs records snapshots k e)
-
-  pub run-numbered : (rows : List ℕ) (n : ℕ) → runOfRows rows n c logs records snapshots .answer ≡ Answer.Refused k → within 1 99 k ≡ true
-  unfolding runOfRows rowsRefusal
-  run-numbered rows n e = first-numbered (rowsQuestions rows n ++ runQuestions c (length logs) (length records)) k refl (outcome-numbered _ _ logs records snapshots k e)
+pub run-numbered : (q : RowsOrTopology) (c : Config) (logs records snapshots : List ℕ) (k : ℕ) → outcomeFor q c logs records snapshots .answer ≡ Answer.Refused k → within 1 99 k ≡ true
+unfolding outcomeFor runRefusalFor
+run-numbered q c logs records snapshots k e = first-numbered (networkQuestions q ++ runQuestions c (length logs) (length records)) k (asked q) (outcome-numbered _ _ logs records snapshots k e)
+  where
+    asked : (q : RowsOrTopology) → numbered (networkQuestions q ++ runQuestions c (length logs) (length records)) ≡ true
+    asked (ofRows rows n) = refl
+    asked (ofTopology topology first second) = refl
 
 pub rows-numbered : (topology first second : ℕ) (out : List ℕ) (k : ℕ) → builtRows topology first second out .0 ≡ Built.Refused k → within 1 99 k ≡ true
 rows-numbered topology first second out k e = first-numbered (topologyQuestions topology first second ++ (leb (nodesOf topology first second) (length out), 10) ∷ []) k refl (go (builderRefusal topology first second (length out)) e)

@@ -17,7 +17,8 @@ use Rattle.metrics.specs.declared.summary.Summary.{Summary}
 use Rattle.config.specs.Limits.{logSize, recordsSize}
 use Rattle.config.specs.declared.Config.{Config}
 use Rattle.rules.specs.declared.answer.Answer.the-variants.{Ran}
-use Rattle.rules.specs.ExactRounds.{ofTopology, givenFor, outcomeFor, Suited, NoneLost, ExactRounds}
+use Rattle.rules.specs.Networks.{ofTopology}
+use Rattle.rules.specs.ExactRounds.{Suited, NoneLost, ExactRounds}
 use Rattle.rules.proofs.ExactRounds.{exact-rounds}
 use Rattle.network.specs.Graph.{has, setOf, any, all, count, linked, widened}
 use Rattle.network.specs.Distance.{spread, reaches, firstWith, distance, links, greatest, eccentricity, diameter}
@@ -31,10 +32,10 @@ use Rattle.phy.specs.Round.{begun, slots, delivered, participants, coverage, ro
 use Rattle.phy.specs.Packets.{samePacket}
 use Rattle.protocol.specs.Paxos.{unionIn, union, size, logged, hold, holdNew, mergeVotesUpTo, greatestQuorum, commitTerm, commitBelow, newlyBelow, commitTo, newlyTo, gapIn, detectGap, find, recovery}
 use Rattle.protocol.specs.Turns.{announce, initiatorTurn, takeData, takePiggyback, takeVotes, participantTurn}
-use Rattle.rules.specs.Questions.{rateAllowed, rowsRefusal, topologyRefusal}
+use Rattle.rules.specs.Questions.{rateAllowed, runRefusalFor}
 use Rattle.pipeline.specs.Round.{recorded, recordAll, prepareRound, takeTurn, turns, processRound, shortestFrom}
 use Rattle.rules.specs.Run.{runRound, complete, endAfter, roundsFrom, runFor, run}
-use Rattle.rules.specs.Entries.{logsWith, recordNumbers, ranWith, runOfRows, runOfTopology}
+use Rattle.rules.specs.Entries.{logsWith, recordNumbers, ranWith, givenFor, outcomeFor}
 
 -- `2 3 0 1 - 0000000000000000 7 1 2 1000`
 abbrev pub printed : Config
@@ -71,7 +72,7 @@ summary =
     }
 
 printed-answer : outcomeFor (ofTopology 2 3 0) printed (replicate logSize 0) (replicate recordsSize 0) [] .answer ≡ Ran summary
-unfolding has setOf any all count linked widened spread reaches firstWith distance links greatest eccentricity diameter topologyRow topologyRows fraction heardAt tabulate tick transition among receivers insert attempt attemptAll snapshotsWith flatten takeOne takeWhile ticked snapshot triesIn moved slotStep begun slots delivered participants coverage round samePacket unionIn union size logged hold holdNew mergeVotesUpTo greatestQuorum commitTerm commitBelow newlyBelow commitTo newlyTo gapIn detectGap find recovery announce initiatorTurn takeData takePiggyback takeVotes participantTurn rateAllowed rowsRefusal topologyRefusal recorded recordAll prepareRound takeTurn turns processRound shortestFrom runRound complete endAfter roundsFrom runFor sumOf logsWith recordNumbers ranWith runOfRows runOfTopology onesIn Ieee.le
+unfolding has setOf any all count linked widened spread reaches firstWith distance links greatest eccentricity diameter topologyRow topologyRows fraction heardAt tabulate tick transition among receivers insert attempt attemptAll snapshotsWith flatten takeOne takeWhile ticked snapshot triesIn moved slotStep begun slots delivered participants coverage round samePacket unionIn union size logged hold holdNew mergeVotesUpTo greatestQuorum commitTerm commitBelow newlyBelow commitTo newlyTo gapIn detectGap find recovery announce initiatorTurn takeData takePiggyback takeVotes participantTurn rateAllowed runRefusalFor recorded recordAll prepareRound takeTurn turns processRound shortestFrom runRound complete endAfter roundsFrom runFor sumOf logsWith recordNumbers ranWith outcomeFor onesIn Ieee.le
 printed-answer = refl
 
 fits : Suited (givenFor (ofTopology 2 3 0) printed)

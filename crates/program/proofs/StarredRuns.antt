@@ -33,10 +33,10 @@ use Rattle.metrics.specs.declared.summary.Summary.{Summary}
 use Rattle.rules.specs.declared.answer.Answer.the-variants.{Ran}
 use Rattle.config.specs.Limits.{logSize, recordsSize}
 use Rattle.config.specs.declared.Config.{Config}
-use Rattle.rules.specs.Entries.{logsWith, recordNumbers, summaryOf, ranWith, outcomeOf, runOfRows, runOfTopology}
-use Rattle.rules.specs.ExactRounds.{RowsOrTopology, ofRows, ofTopology, givenFor, outcomeFor}
+use Rattle.rules.specs.Entries.{logsWith, recordNumbers, summaryOf, ranWith, outcomeOf, givenFor, outcomeFor, runOfTopology}
+use Rattle.rules.specs.Networks.{RowsOrTopology, ofTopology}
 use Rattle.program.specs.Printed.{lineText, printed}
-use Rattle.rules.specs.Questions.{rateAllowed, rowsRefusal, topologyRefusal}
+use Rattle.rules.specs.Questions.{rateAllowed, runRefusalFor}
 use Rattle.pipeline.specs.Round.{recorded, recordAll, prepareRound, takeTurn, turns, processRound, shortestFrom}
 use Rattle.rules.specs.Run.{Given, Ended, begin, runRound, complete, endAfter, roundsFrom, runFor, run}
 use Rattle.program.specs.StarredRuns.{StarRun, idleConfig, half, StarredRuns}
@@ -59,12 +59,12 @@ module _ (seed interval limit : ℕ) (h : 1 ≤ interval) (l : 1 ≤ limit) wher
   unfolding runFor endAfter complete all
   one-round = from-end given 1001 0 (begin given) (lt-leb limit 0 l) refl
 
-  passes : topologyRefusal 3 4 0 (idleConfig seed interval limit) logSize recordsSize ≡ none
-  unfolding topologyRefusal rateAllowed Ieee.le ofBits
+  passes : runRefusalFor (ofTopology 3 4 0) (idleConfig seed interval limit) logSize recordsSize ≡ none
+  unfolding runRefusalFor rateAllowed Ieee.le ofBits
   passes = ap (λ (b : Bool). cond b none (some 9)) (le-leb 1 interval h)
 
   answered : runOfTopology 3 4 0 (idleConfig seed interval limit) (replicate logSize 0) (replicate recordsSize 0) buffer .answer ≡ Ran (summaryOf given last)
-  unfolding runOfTopology ranWith
+  unfolding outcomeFor ranWith
   answered =
       ap (λ (o : Option ℕ). outcomeOf o given (replicate logSize 0) (replicate recordsSize 0) buffer .answer) passes
       ∙ ap (λ (e : Ended). Ran (summaryOf given e)) one-round
@@ -101,12 +101,8 @@ no-round-of o g logs records snapshots s z e =
 
 limit-0 : (q : RowsOrTopology) (c : Config) (logs records snapshots : List ℕ) (s : Summary) → c .«max_slots» ≡ 0
     → outcomeFor q c logs records snapshots .answer ≡ Ran s → (s .rounds ≡ 0) × (s .ended ≡ 4)
-unfolding runOfRows runOfTopology
-limit-0 (ofRows rows n) c logs records snapshots s z e =
-    no-round-of (rowsRefusal rows n c (length logs) (length records)) (givenFor (ofRows rows n) c) logs records snapshots s z e
-limit-0 (ofTopology topology first second) c logs records snapshots s z e =
-    no-round-of (topologyRefusal topology first second c (length logs) (length records)) (givenFor (ofTopology topology first second) c)
-    logs records snapshots s z e
+unfolding outcomeFor
+limit-0 q c logs records snapshots s z e = no-round-of (runRefusalFor q c (length logs) (length records)) (givenFor q c) logs records snapshots s z e
 
 -- ---- loss 0.5
 succeeds-at : (draw : ℕ) → draw / 2 ^ 11 ≡ 2 ^ 52 → succeeds half draw ≡ true
@@ -122,9 +118,9 @@ pub starred-runs : StarredRuns
 unfolding has all count linked widened greatest eccentricity diameter topologyRow topologyRows heardAt tabulate tick transition among
     receivers insert attempt attemptAll snapshotsWith flatten takeOne takeWhile ticked snapshot triesIn moved slotStep begun slots delivered participants
     coverage round samePacket union size logged hold holdNew mergeVotesUpTo greatestQuorum commitTerm commitBelow newlyBelow commitTo newlyTo
-    gapIn detectGap find recovery announce initiatorTurn takeData takePiggyback takeVotes participantTurn rateAllowed topologyRefusal recorded
+    gapIn detectGap find recovery announce initiatorTurn takeData takePiggyback takeVotes participantTurn rateAllowed runRefusalFor recorded
     recordAll prepareRound takeTurn turns processRound shortestFrom runRound complete endAfter roundsFrom runFor sumOf logsWith recordNumbers ranWith
-    runOfTopology Ieee.le ofBits ascii bytesBefore prefixed fields isDash roundSlots _>>=_ fourDecimals readFields readLine digit allDigits append
+    outcomeFor Ieee.le ofBits ascii bytesBefore prefixed fields isDash roundSlots _>>=_ fourDecimals readFields readLine digit allDigits append
     numeral decimal hexadecimal spelledIn spelled labelled each runLine radioLine linkLine proposalLine snapshotLine termText logLine listing lineText
     printed
 starred-runs =

@@ -20,8 +20,8 @@ use Rattle.rules.specs.declared.answer.Answer.{Answer}
 use Rattle.rules.specs.declared.answer.Answer.the-variants.{Ran}
 use Rattle.config.specs.Limits.{logSize, recordsSize, listedSize}
 use Rattle.config.specs.declared.Config.{Config}
-use Rattle.rules.specs.Entries.{terms, runOfTopology}
-use Rattle.rules.specs.ExactRounds.{RowsOrTopology, outcomeFor}
+use Rattle.rules.specs.Networks.{RowsOrTopology}
+use Rattle.rules.specs.Entries.{terms, outcomeFor, runOfTopology}
 use Rattle.program.specs.Printed.{printed}
 
 -- the diameter of a topology by its number, its nodes or rows, and its second number

@@ -1,29 +1,23 @@
--- What acceptance says of a run of rows and of a run of a topology. Assumes nothing.
+-- What acceptance says of a run. Assumes nothing.
 use Prim.Native.Nat.{ℕ, _≤_}
 use mathlib.Core.List.{List}
 use mathlib.Core.Option.{Option, none, some}
-use mathlib.Core.Path.{_≡_, refl, sym, ap}
+use mathlib.Core.Path.{_≡_, refl, ap}
 use native.Mathlib.Omega.{arith}
 use lib.ListN.{length}
-use Rattle.network.specs.Graph.{widened, Checked}
-use Rattle.config.specs.Limits.{maxNodes, logSize, recordsSize}
-use Rattle.network.specs.Distance.{diameter}
-use Rattle.network.specs.Questions.{firstNo, nodesOf, rowsQuestions, topologyQuestions}
-use Rattle.network.specs.Topology.{topologyRows, topologyOf}
-use Rattle.network.proofs.Checks.{agree-checked}
+use Rattle.config.specs.Limits.{logSize, recordsSize}
+use Rattle.network.specs.Questions.{firstNo}
 use Rattle.network.proofs.Distances.{diameter-lt}
-use Rattle.network.proofs.Rows.{getD-widened, length-widened}
-use Rattle.network.proofs.Topologies.{rows-checked}
-use Rattle.network.proofs.Within.{within-both, topology-nodes}
 use Rattle.metrics.specs.declared.summary.Summary.{Summary}
 use Rattle.config.specs.declared.Config.{Config}
 use Rattle.rules.specs.declared.answer.Answer.the-variants.{Ran}
-use Rattle.rules.specs.Questions.{configQuestions, bufferQuestions, runQuestions, rowsRefusal, topologyRefusal}
+use Rattle.rules.specs.Networks.{RowsOrTopology, networkQuestions}
+use Rattle.rules.specs.Questions.{configQuestions, bufferQuestions, runQuestions, runRefusalFor}
 use Rattle.rules.specs.Accepted.{MeasuredGraph, Accepted}
 use Rattle.rules.specs.Run.{Given, run}
-use Rattle.rules.specs.Entries.{summaryOf, ranWith, givenAs, givenOf, outcomeOf, runOfRows, runOfTopology}
-use Rattle.rules.specs.ExactRounds.{RowsOrTopology, ofRows, ofTopology, givenFor, outcomeFor}
-use Rattle.rules.proofs.FirstNo.{both-none, row-facts, config-facts, buffer-facts}
+use Rattle.rules.specs.Entries.{summaryOf, ranWith, givenAs, givenFor, outcomeOf, outcomeFor}
+use Rattle.rules.proofs.FirstNo.{both-none, config-facts, buffer-facts}
+use Rattle.rules.proofs.Found.{network-measured}
 
 -- the buffers are long enough
 pub record Roomy (logs records : List ℕ) : Type 0 where
@@ -47,16 +41,6 @@ accepts {graph} {n} {d} c graph-is e =
       interval = q .interval;
     }
 
--- the graph of n nodes with rows that pass the row check
-pub graph-measured : (rows : List ℕ) (n d : ℕ) → (2 ≤ n) × (n ≤ maxNodes) → Checked rows n → d ≡ diameter (widened rows n) n → MeasuredGraph (widened rows n) n d
-graph-measured rows n d size ck m =
-    record {
-      checked = agree-checked rows (widened rows n) n (λ i h. sym (getD-widened rows n (ck .enough) i h)) (length-widened rows n (ck .enough)) ck;
-      two = size .0;
-      few = size .1;
-      measured = m;
-    }
-
 roomy : (logs records : List ℕ) → firstNo (bufferQuestions (length logs) (length records)) ≡ none → Roomy logs records
 roomy logs records e = let long = buffer-facts (length logs) (length records) e in record { for-logs = long .0; for-records = long .1 }
 
@@ -75,28 +59,14 @@ pub record Admitted (q : RowsOrTopology) (c : Config) (logs records snapshots : 
   pub summary : summaryOf (givenFor q c) (run (givenFor q c)) ≡ s
 
 pub admitted : (q : RowsOrTopology) (c : Config) (logs records snapshots : List ℕ) (s : Summary) → outcomeFor q c logs records snapshots .answer ≡ Ran s → Admitted q c logs records snapshots s
-unfolding runOfRows runOfTopology rowsRefusal topologyRefusal
-admitted (ofRows rows n) c logs records snapshots s e =
-    let g : Given = givenOf rows n c in
-    let r = ran-so (rowsRefusal rows n c (length logs) (length records)) g logs records snapshots s e in
-    let yes = both-none (rowsQuestions rows n) (runQuestions c (length logs) (length records)) (r .0) in
-    let pass = both-none (configQuestions c) (bufferQuestions (length logs) (length records)) (yes .1) in
-    let facts = row-facts rows n (yes .0) in
-    record {
-      accepted = accepts c (graph-measured rows n _ (facts .0) (facts .1) refl) (pass .0);
-      roomy = roomy logs records (pass .1);
-      ran = ap (λ (o : Option ℕ). outcomeOf o g logs records snapshots) (r .0);
-      summary = r .1;
-    }
-admitted (ofTopology topology first second) c logs records snapshots s e =
-    let n : ℕ = nodesOf topology first second in
-    let rows : List ℕ = topologyRows (topologyOf topology second) n in
-    let g : Given = givenOf rows n c in
-    let r = ran-so (topologyRefusal topology first second c (length logs) (length records)) g logs records snapshots s e in
-    let yes = both-none (topologyQuestions topology first second) (runQuestions c (length logs) (length records)) (r .0) in
+unfolding outcomeFor runRefusalFor
+admitted q c logs records snapshots s e =
+    let g : Given = givenFor q c in
+    let r = ran-so (runRefusalFor q c (length logs) (length records)) g logs records snapshots s e in
+    let yes = both-none (networkQuestions q) (runQuestions c (length logs) (length records)) (r .0) in
     let pass = both-none (configQuestions c) (bufferQuestions (length logs) (length records)) (yes .1) in
     record {
-      accepted = accepts c (graph-measured rows n _ (within-both 2 maxNodes n (topology-nodes topology first second (yes .0))) (rows-checked (topologyOf topology second) n) refl) (pass .0);
+      accepted = accepts c (network-measured q (yes .0)) (pass .0);
       roomy = roomy logs records (pass .1);
       ran = ap (λ (o : Option ℕ). outcomeOf o g logs records snapshots) (r .0);
       summary = r .1;

@@ -12,8 +12,8 @@ use Rattle.metrics.specs.declared.summary.Summary.{Summary}
 use Rattle.pipeline.specs.Round.{Shared, Record, stateOf}
 use Rattle.rules.specs.Accepted.{Accepted}
 use Rattle.rules.specs.Run.{Given, run}
-use Rattle.rules.specs.Entries.{Outcome, terms, recordNumbers, summaryOf, ranWith}
-use Rattle.rules.specs.ExactRounds.{slotsIn, firstSlot, roundsOf, ExactRecord, ExactRounds, givenFor, Suited, Demand3}
+use Rattle.rules.specs.Entries.{Outcome, terms, recordNumbers, givenFor, summaryOf, ranWith}
+use Rattle.rules.specs.ExactRounds.{slotsIn, firstSlot, roundsOf, ExactRecord, ExactRounds, Suited, Demand3}
 use Rattle.rules.proofs.Claimed.{entries}
 use Rattle.rules.proofs.ExactTurns.{claimed}
 use Rattle.rules.proofs.ExactRound.{exactRecord, sharedAt}

@@ -1,9 +1,10 @@
 -- The theorems on a run, and the laws that they rest on.
 --     FirstNo      the questions in order, and what those that pass leave
+--     Found        the network that is asked for
 --     Rounds       bounds of a round
 --     Ends         one round more, or an end; what every round keeps
 --     Admitted     what acceptance says of a run
---     Outcomes     what an entry answers
+--     Outcomes     the outcome of a run, from what asking for its network answered
 --     Votes        unions and sizes of sets of nodes, and the set of the initiators of consecutive rounds
 --     Claimed      a node's state in a run that loses nothing
 --     ExactTurns   the two turns of a node in a round of it
@@ -18,6 +19,7 @@
 --     RunBounds    bounds on the counts of every accepted run
 --     Coverage     the covered nodes of a round are those that took part
 pub mod FirstNo
+pub mod Found
 pub mod Rounds
 pub mod Ends
 pub mod Admitted

@@ -11,7 +11,8 @@ use Rattle.metrics.specs.declared.summary.Summary.{Summary}
 use Rattle.config.specs.declared.Config.{Config}
 use Rattle.config.specs.Limits.{mostRounds}
 use Rattle.rules.specs.Run.{runFor, Given, begin, run}
-use Rattle.rules.specs.ExactRounds.{RowsOrTopology, ofRows, ofTopology, givenFor}
+use Rattle.rules.specs.Networks.{RowsOrTopology}
+use Rattle.rules.specs.Entries.{givenFor}
 use Rattle.rules.specs.NothingLost.{EqualWhenHeard, EqualAtRate0, ExactAtRate0}
 use Rattle.rules.proofs.Ends.{along-rounds, tallied-next}
 use Rattle.rules.proofs.Admitted.{admitted}
@@ -35,8 +36,7 @@ equal-when-heard q c logs records snapshots s e =
 -- every attempt is heard at a rate of 0 or minus 0
 heard-0 : (q : RowsOrTopology) (c : Config) → lossless (c .«loss_rate») ≡ true → (k : ℕ) → givenFor q c .heard k ≡ true
 unfolding heardAt
-heard-0 (ofRows rows n) c e k = ap (λ (b : Bool). b || succeeds (c .«loss_rate») (draw (c .seed) k)) e
-heard-0 (ofTopology topology first second) c e k = ap (λ (b : Bool). b || succeeds (c .«loss_rate») (draw (c .seed) k)) e
+heard-0 q c e k = ap (λ (b : Bool). b || succeeds (c .«loss_rate») (draw (c .seed) k)) e
 
 pub equal-at-rate-0 : EqualAtRate0
 equal-at-rate-0 q c logs records snapshots s e free = equal-when-heard q c logs records snapshots s e .1 (λ k h. heard-0 q c free k)

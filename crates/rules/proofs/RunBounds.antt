@@ -18,8 +18,7 @@ use Rattle.pipeline.specs.Round.{Prepared, stateOf, recorded, initiatorOf, prep
 use Rattle.rules.specs.Accepted.{Accepted}
 use Rattle.config.specs.Limits.{mostRounds}
 use Rattle.rules.specs.Run.{runFor, Given, Past, Running, begin, setupOf, runRound, run}
-use Rattle.rules.specs.Entries.{summaryOf}
-use Rattle.rules.specs.ExactRounds.{givenFor}
+use Rattle.rules.specs.Entries.{givenFor, summaryOf}
 use Rattle.rules.specs.RunBounds.{longest, Bounds, AllBounded}
 use Rattle.rules.proofs.Rounds.{longest-few, covered-few}
 use Rattle.rules.proofs.Ends.{Through, along-rounds, tallied-next}

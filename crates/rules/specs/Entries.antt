@@ -6,8 +6,6 @@ use lib.ListN.{length}
 use lib.Seq.{sets}
 use Rattle.config.specs.Limits.{maxTerms, logCounts}
 use Rattle.network.specs.Graph.{widened}
-use Rattle.network.specs.Questions.{firstNo, nodesOf}
-use Rattle.network.specs.Topology.{topologyRows, topologyOf}
 use Rattle.network.specs.Distance.{diameter}
 use Rattle.random.specs.Reception.{heardAt}
 use Rattle.phy.specs.declared.node.Node.{Node}
@@ -18,7 +16,9 @@ use Rattle.metrics.specs.declared.summary.Summary.{Summary}
 use Rattle.config.specs.declared.Config.{Config}
 use Rattle.rules.specs.declared.answer.Answer.{Answer}
 use Rattle.rules.specs.declared.answer.Answer.the-variants.{Ran, Refused}
-use Rattle.rules.specs.Questions.{runQuestions, rowsRefusal, topologyRefusal}
+use Rattle.rules.specs.Networks.{RowsOrTopology, ofRows, ofTopology, nodesIn, rowsIn}
+use Rattle.network.specs.Questions.{firstNo}
+use Rattle.rules.specs.Questions.{runQuestions, runRefusalFor}
 use Rattle.pipeline.specs.Round.{Record, recordTriple, stateOf}
 use Rattle.rules.specs.Run.{Given, Running, Ended, run}
 
@@ -111,14 +111,16 @@ abbrev pub runOfGraph : List ℕ → ℕ → ℕ → Config → List ℕ → Lis
 runOfGraph graph n d c logs records snapshots =
     outcomeOf (firstNo (runQuestions c (length logs) (length records))) (givenAs graph n d c) logs records snapshots
 
--- run of rows
-unfoldable pub runOfRows : List ℕ → ℕ → Config → List ℕ → List ℕ → List ℕ → Outcome
-runOfRows rows n c logs records snapshots =
-    outcomeOf (rowsRefusal rows n c (length logs) (length records)) (givenOf rows n c) logs records snapshots
+-- the run that is asked for, by rows or by a topology
+abbrev pub givenFor : RowsOrTopology → Config → Given
+givenFor q c = givenOf (rowsIn q) (nodesIn q) c
 
--- run of a topology: the run of its rows, after its own questions
-unfoldable pub runOfTopology : ℕ → ℕ → ℕ → Config → List ℕ → List ℕ → List ℕ → Outcome
-runOfTopology topology first second c logs records snapshots =
-    let n : ℕ = nodesOf topology first second in
-    outcomeOf (topologyRefusal topology first second c (length logs) (length records))
-    (givenOf (topologyRows (topologyOf topology second) n) n c) logs records snapshots
+unfoldable pub outcomeFor : RowsOrTopology → Config → List ℕ → List ℕ → List ℕ → Outcome
+outcomeFor q c logs records snapshots = outcomeOf (runRefusalFor q c (length logs) (length records)) (givenFor q c) logs records snapshots
+
+-- run of rows, and run of a topology
+abbrev pub runOfRows : List ℕ → ℕ → Config → List ℕ → List ℕ → List ℕ → Outcome
+runOfRows rows n c logs records snapshots = outcomeFor (ofRows rows n) c logs records snapshots
+
+abbrev pub runOfTopology : ℕ → ℕ → ℕ → Config → List ℕ → List ℕ → List ℕ → Outcome
+runOfTopology topology first second c logs records snapshots = outcomeFor (ofTopology topology first second) c logs records snapshots

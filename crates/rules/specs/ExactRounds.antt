@@ -7,9 +7,7 @@ use mathlib.Core.Path.{_≡_}
 use lib.ListN.{length, getD, getElem?}
 use Rattle.config.specs.Limits.{maxTerms, recordSize, logCounts}
 use Rattle.network.specs.Distance.{links, distance, eccentricity, Joined}
-use Rattle.network.specs.Questions.{nodesOf}
 use Rattle.random.specs.Table.{tabulate}
-use Rattle.network.specs.Topology.{topologyRows, topologyOf}
 use Rattle.phy.specs.declared.node.Node.{Node}
 use Rattle.config.specs.declared.RoundSlots.{RoundSlots}
 use Rattle.phy.specs.Slot.{at}
@@ -18,7 +16,8 @@ use Rattle.config.specs.declared.Config.{Config}
 use Rattle.rules.specs.declared.answer.Answer.the-variants.{Ran}
 use Rattle.pipeline.specs.Round.{stateOf, initiatorOf}
 use Rattle.rules.specs.Run.{Given, Past, Ended, lengthOf, run}
-use Rattle.rules.specs.Entries.{Outcome, terms, givenOf, runOfRows, runOfTopology}
+use Rattle.rules.specs.Networks.{RowsOrTopology}
+use Rattle.rules.specs.Entries.{terms, givenFor, outcomeFor}
 
 -- ---- the sums that the rounds come to
 
@@ -101,20 +100,6 @@ pub record ExactRounds (g : Given) (e : Ended) (s : Summary) (logs records : Lis
   pub log-of : (j : ℕ) → j < g .nodes → ExactLog g e logs j
 
 -- ---- the premises
-
--- a run is asked for by rows, or by a topology with its two numbers
-pub data RowsOrTopology : Type 0 where
-  ofRows : List ℕ → ℕ → RowsOrTopology
-  ofTopology : ℕ → ℕ → ℕ → RowsOrTopology
-
-abbrev pub givenFor : RowsOrTopology → Config → Given
-givenFor (ofRows rows n) c = givenOf rows n c
-givenFor (ofTopology topology first second) c =
-    givenOf (topologyRows (topologyOf topology second) (nodesOf topology first second)) (nodesOf topology first second) c
-
-abbrev pub outcomeFor : RowsOrTopology → Config → List ℕ → List ℕ → List ℕ → Outcome
-outcomeFor (ofRows rows n) c logs records snapshots = runOfRows rows n c logs records snapshots
-outcomeFor (ofTopology topology first second) c logs records snapshots = runOfTopology topology first second c logs records snapshots
 
 -- `round_slots` is absent or at least m
 abbrev pub AbsentOrAtLeast : ℕ → RoundSlots → Type 0

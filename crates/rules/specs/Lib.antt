@@ -1,5 +1,6 @@
 -- What is right for a run.
 --     Run          the rounds, the four ends and the run
+--     Networks     the network that is asked for, by rows or by a topology
 --     Questions    the questions put to an input
 --     Accepted     what the questions leave of a run
 --     Entries      what an entry answers, and what it leaves in the lent buffers
@@ -9,6 +10,7 @@
 --     RunBounds    bounds on the counts of every accepted run
 --     Coverage     the covered nodes of a round are those that took part
 pub mod Run
+pub mod Networks
 pub mod Questions
 pub mod Accepted
 pub mod Entries

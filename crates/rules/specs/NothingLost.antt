@@ -10,7 +10,9 @@ use Rattle.metrics.specs.declared.summary.Summary.{Summary}
 use Rattle.config.specs.declared.Config.{Config}
 use Rattle.rules.specs.declared.answer.Answer.the-variants.{Ran}
 use Rattle.rules.specs.Run.{run}
-use Rattle.rules.specs.ExactRounds.{ExactRounds, RowsOrTopology, givenFor, outcomeFor, Suited}
+use Rattle.rules.specs.Networks.{RowsOrTopology}
+use Rattle.rules.specs.Entries.{givenFor, outcomeFor}
+use Rattle.rules.specs.ExactRounds.{ExactRounds, Suited}
 
 -- a run of rows or of a topology that is accepted with the summary s: attempts and successes are equal exactly when every attempt was heard
 abbrev pub EqualWhenHeard : Type 0

@@ -8,9 +8,10 @@ use lib.Dec.{leb}
 use lib.Ieee as Ieee
 use lib.Ieee.{Float, fin}
 use Rattle.config.specs.Limits.{maxTerms, maxRepeats, maxRoundSlots, logSize, recordsSize}
-use Rattle.network.specs.Questions.{within, firstNo, rowsQuestions, topologyQuestions}
+use Rattle.network.specs.Questions.{within, firstNo}
 use Rattle.config.specs.declared.RoundSlots.{RoundSlots}
 use Rattle.config.specs.declared.Config.{Config}
+use Rattle.rules.specs.Networks.{RowsOrTopology, networkQuestions}
 
 -- question 6: `round_slots` absent or 0 to 4,096
 abbrev pub slotsAllowed : RoundSlots → Bool
@@ -39,9 +40,10 @@ bufferQuestions logs records = (leb logSize logs && leb recordsSize records, 10)
 abbrev pub runQuestions : Config → ℕ → ℕ → List (Bool × ℕ)
 runQuestions c logs records = configQuestions c ++ bufferQuestions logs records
 
--- the refusal of a run of rows, and of a run of a topology
-unfoldable pub rowsRefusal : List ℕ → ℕ → Config → ℕ → ℕ → Option ℕ
-rowsRefusal rows n c logs records = firstNo (rowsQuestions rows n ++ runQuestions c logs records)
+-- The refusal of a configuration: the questions of its network, then 5 to 9.
+unfoldable pub refusalFor : RowsOrTopology → Config → Option ℕ
+refusalFor q c = firstNo (networkQuestions q ++ configQuestions c)
 
-unfoldable pub topologyRefusal : ℕ → ℕ → ℕ → Config → ℕ → ℕ → Option ℕ
-topologyRefusal topology first second c logs records = firstNo (topologyQuestions topology first second ++ runQuestions c logs records)
+-- The refusal of a run: the questions of its network, then 5 to 10.
+unfoldable pub runRefusalFor : RowsOrTopology → Config → ℕ → ℕ → Option ℕ
+runRefusalFor q c logs records = firstNo (networkQuestions q ++ runQuestions c logs records)

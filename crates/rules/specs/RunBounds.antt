@@ -8,7 +8,8 @@ use Rattle.metrics.specs.declared.summary.Summary.{Summary}
 use Rattle.config.specs.declared.Config.{Config}
 use Rattle.rules.specs.declared.answer.Answer.the-variants.{Ran}
 use Rattle.rules.specs.Run.{Given}
-use Rattle.rules.specs.ExactRounds.{RowsOrTopology, givenFor, outcomeFor}
+use Rattle.rules.specs.Networks.{RowsOrTopology}
+use Rattle.rules.specs.Entries.{givenFor, outcomeFor}
 
 -- the most slots that a round may have
 abbrev pub longest : Given → ℕ

@@ -1,21 +1,20 @@
 // The public entries: a run of rows, and a run of a topology.
 use super::outcome::run_pipeline;
-use rounds::run::Plan;
 use config::Config;
 use config::limits::MAX_NODES;
-use network::distance::Measured;
-use network::distance::diameter_of;
-use network::distance::measure;
-use network::graph::widen;
-use network::topology::Built;
-use network::topology::build_graph;
+use rounds::run::Plan;
 use rules::answer::Answer;
+use rules::networks::Extent;
+use rules::networks::Network;
+use rules::networks::network_of_rows;
+use rules::networks::network_of_topology;
 use rules::questions::Refusal;
 use rules::questions::run_refusal;
 ghost use mathlib.Core.Path.{_≡_};
 ghost use Rattle.rules.specs.Accepted.{MeasuredGraph};
 ghost use Rattle.rules.specs.Answers.{outcome};
-ghost use Rattle.rules.specs.Entries.{runOfGraph, runOfRows, runOfTopology};
+ghost use Rattle.rules.specs.Entries.{runOfGraph, outcomeFor, runOfRows, runOfTopology};
+ghost use Rattle.rules.specs.Networks.{RowsOrTopology, networkFor, AskedFor};
 
 // A run of a graph that its own questions let pass: questions 5 to 10, then the run.
 fn run_graph(
@@ -47,6 +46,29 @@ fn run_graph(
     }
 }
 
+// A run of a network that was asked for.
+fn run_network(
+    network: Network,
+    config: Config,
+    logs: &mut [u8],
+    records: &mut [u64],
+    snapshots: &mut [u64],
+) -> Answer
+    requires { ⌜ AskedFor network ⌝ }
+    ensures { λ r. ⌜ ((q : RowsOrTopology) → network ≡ networkFor q →
+        outcome r (now (logs .exit)) (now (records .exit)) (now (snapshots .exit))
+        ≡ outcomeFor q config (now (logs .entry)) (now (records .entry)) (now (snapshots .entry))) ⌝ }
+{
+    let extent = network.extent;
+    match extent {
+        Extent::Refused(k) => Answer::Refused(k),
+        Extent::Of(nodes, diameter) => {
+            let graph = network.rows;
+            run_graph(&graph, nodes, diameter, config, logs, records, snapshots)
+        }
+    }
+}
+
 // A run of n nodes with these rows. A refusal leaves every buffer as it was.
 pub fn run_rows(
     rows: &[u32],
@@ -60,15 +82,8 @@ pub fn run_rows(
         outcome r (now (logs .exit)) (now (records .exit)) (now (snapshots .exit))
         ≡ runOfRows (now (rows .entry)) n config (now (logs .entry)) (now (records .entry)) (now (snapshots .entry)) ⌝ }
 {
-    let measured = measure(rows, n);
-    match measured {
-        Measured::Refused(k) => Answer::Refused(k),
-        Measured::Links(d) => {
-            let nodes = n as usize;
-            let graph = widen(rows, nodes);
-            run_graph(&graph, nodes, d, config, logs, records, snapshots)
-        }
-    }
+    let network = network_of_rows(rows, n);
+    run_network(network, config, logs, records, snapshots)
 }
 
 // A run of the topology with that number. `first` is the number of nodes, for a grid of rows, and
@@ -86,14 +101,6 @@ pub fn run_topology(
         outcome r (now (logs .exit)) (now (records .exit)) (now (snapshots .exit))
         ≡ runOfTopology topology first second config (now (logs .entry)) (now (records .entry)) (now (snapshots .entry)) ⌝ }
 {
-    let built = build_graph(topology, first, second);
-    let answer = built.answer;
-    match answer {
-        Built::Refused(k) => Answer::Refused(k),
-        Built::Nodes(n) => {
-            let graph = built.rows;
-            let d = diameter_of(&graph, n);
-            run_graph(&graph, n, d, config, logs, records, snapshots)
-        }
-    }
+    let network = network_of_topology(topology, first, second);
+    run_network(network, config, logs, records, snapshots)
 }

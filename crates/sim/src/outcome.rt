@@ -1,9 +1,6 @@
 // A run that no question refuses: its summary, and the buffers filled once it has stopped.
 use super::buffers::write_logs;
 use super::buffers::write_records;
-use rounds::run::Plan;
-use rounds::run::Stopped;
-use rounds::run::play;
 use config::limits::ENOUGH_ROUNDS;
 use config::limits::MAX_NODES;
 use metrics::summary::Summary;
@@ -13,6 +10,9 @@ use pipeline::carry::FEW_STATES;
 use pipeline::carry::SOME_NODES;
 use pipeline::carry::SOME_STATES;
 use pipeline::records::HISTORY_SIZE;
+use rounds::run::Plan;
+use rounds::run::Stopped;
+use rounds::run::play;
 ghost use mathlib.Core.Path.{_≡_};
 ghost use Prim.Native.Nat.{_≤_, _<_};
 ghost use lib.ListN.{replicate};

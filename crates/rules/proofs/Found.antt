@@ -1,0 +1,111 @@
+-- The network that is asked for: what its questions leave, and what asking for it answers. Assumes nothing.
+use Prim.Native.Nat.{ℕ, _≤_}
+use mathlib.Core.List.{List}
+use mathlib.Core.Option.{Option, none, some}
+use mathlib.Core.Path.{_≡_, refl, sym, ap, subst, _∙_}
+use native.Mathlib.Omega.{arith}
+use Rattle.config.specs.Limits.{maxNodes}
+use Rattle.config.specs.declared.Config.{Config}
+use Rattle.network.specs.Graph.{widened, Checked}
+use Rattle.network.specs.Distance.{diameter, measuredAs, measured}
+use Rattle.network.specs.Questions.{firstNo, nodesOf, rowsQuestions}
+use Rattle.network.specs.Topology.{topologyOf}
+use Rattle.network.specs.declared.distance.Measured.the-variants.{Links, Refused as Measured·Refused}
+use Rattle.network.proofs.Checks.{agree-checked, diameter-agree}
+use Rattle.network.proofs.Rows.{getD-widened, length-widened}
+use Rattle.network.proofs.Topologies.{rows-checked}
+use Rattle.network.proofs.Within.{within-both, topology-nodes}
+use Rattle.rules.specs.declared.networks.Network.{Network}
+use Rattle.rules.specs.declared.networks.Extent.the-variants.{Of, Refused}
+use Rattle.rules.specs.Accepted.{MeasuredGraph}
+use Rattle.rules.specs.Entries.{givenAs, givenFor}
+use Rattle.rules.specs.Networks.{RowsOrTopology, ofRows, ofTopology, networkQuestions, nodesIn, rowsIn, graphIn, refusedNetwork, networkAs, networkFor}
+use Rattle.rules.proofs.FirstNo.{row-facts}
+
+-- ---- rows: what the answer of `measure` says
+pub measured-refused : (rows : List ℕ) (n k : ℕ) → Measured·Refused k ≡ measured rows n → firstNo (rowsQuestions rows n) ≡ some k
+unfolding measured
+measured-refused rows n k e = go (firstNo (rowsQuestions rows n)) e
+  where
+    go : (o : Option ℕ) → Measured·Refused k ≡ measuredAs (diameter rows n) o → o ≡ some k
+    go none p = let z : _≡_ {A = ℕ} 0 1 = cc in absurd (omega arith)
+    go (some j) p = cc
+
+pub measured-links : (rows : List ℕ) (n d : ℕ) → Links d ≡ measured rows n → (firstNo (rowsQuestions rows n) ≡ none) × (d ≡ diameter rows n)
+unfolding measured
+measured-links rows n d e = go (firstNo (rowsQuestions rows n)) e
+  where
+    go : (o : Option ℕ) → Links d ≡ measuredAs (diameter rows n) o → (o ≡ none) × (d ≡ diameter rows n)
+    go none p = (refl, cc)
+    go (some j) p = let z : _≡_ {A = ℕ} 0 1 = cc in absurd (omega arith)
+
+-- the diameter is that of the widened rows
+pub wide-diameter : (rows : List ℕ) (n d : ℕ) → firstNo (rowsQuestions rows n) ≡ none → d ≡ diameter rows n → d ≡ diameter (widened rows n) n
+wide-diameter rows n d e m = m ∙ diameter-agree rows (widened rows n) n (λ i h. sym (getD-widened rows n (row-facts rows n e .1 .enough) i h))
+
+-- ---- what the questions leave
+
+-- 2 to 32 nodes, with rows that pass the row check
+sized : (q : RowsOrTopology) → firstNo (networkQuestions q) ≡ none → ((2 ≤ nodesIn q) × (nodesIn q ≤ maxNodes)) × Checked (rowsIn q) (nodesIn q)
+sized (ofRows rows n) e = row-facts rows n e
+sized (ofTopology topology first second) e =
+    let n : ℕ = nodesOf topology first second in
+    (within-both 2 maxNodes n (topology-nodes topology first second e), rows-checked (topologyOf topology second) n)
+
+pub network-measured : (q : RowsOrTopology) → firstNo (networkQuestions q) ≡ none → MeasuredGraph (graphIn q) (nodesIn q) (diameter (graphIn q) (nodesIn q))
+network-measured q e =
+    let s = sized q e in
+    let rows = rowsIn q in
+    let n = nodesIn q in
+    let enough = s .1 .enough in
+    record {
+      checked = agree-checked rows (graphIn q) n (λ i h. sym (getD-widened rows n enough i h)) (length-widened rows n enough) (s .1);
+      two = s .0 .0;
+      few = s .0 .1;
+      measured = refl;
+    }
+
+-- ---- what asking for it answers
+
+module _ (q : RowsOrTopology) where
+  pub is-refused : (k : ℕ) → firstNo (networkQuestions q) ≡ some k → refusedNetwork k ≡ networkFor q
+  unfolding networkFor
+  is-refused k e = ap (networkAs q) (sym e)
+
+  pub is-found : {graph : List ℕ} {n d : ℕ} → firstNo (networkQuestions q) ≡ none → graph ≡ graphIn q → n ≡ nodesIn q → d ≡ diameter (graphIn q) (nodesIn q)
+      → record { extent = Of n d; rows = graph } ≡ networkFor q
+  unfolding networkFor
+  is-found e graph nodes links = (λ i. record { extent = Of (nodes i) (links i); rows = graph i }) ∙ ap (networkAs q) (sym e)
+
+-- the questions let it pass, and these are its graph, its number of nodes and its diameter
+pub record Found (q : RowsOrTopology) (graph : List ℕ) (n d : ℕ) : Type 0 where
+  pub passes : firstNo (networkQuestions q) ≡ none
+  pub measured : MeasuredGraph graph n d
+  pub given : (c : Config) → givenAs graph n d c ≡ givenFor q c
+
+module _ (q : RowsOrTopology) {x : Network} (e : x ≡ networkFor q) where
+  pub network-refused : (k : ℕ) → x .extent ≡ Refused k → firstNo (networkQuestions q) ≡ some k
+  unfolding networkFor
+  network-refused k a = go (firstNo (networkQuestions q)) (sym (ap (λ (y : Network). y .extent) e) ∙ a)
+    where
+      go : (o : Option ℕ) → networkAs q o .extent ≡ Refused k → o ≡ some k
+      go none p = let z : _≡_ {A = ℕ} 0 1 = cc in absurd (omega arith)
+      go (some j) p = cc
+
+  pub network-found : (n d : ℕ) → x .extent ≡ Of n d → Found q (x .rows) n d
+  unfolding networkFor
+  network-found n d a = go (firstNo (networkQuestions q)) refl (sym (ap (λ (y : Network). y .extent) e) ∙ a)
+    where
+      go : (o : Option ℕ) → firstNo (networkQuestions q) ≡ o → networkAs q o .extent ≡ Of n d → Found q (x .rows) n d
+      go (some j) f p = let z : _≡_ {A = ℕ} 0 1 = cc in absurd (omega arith)
+      go none f p =
+          let nodes : nodesIn q ≡ n = cc in
+          let links : diameter (graphIn q) (nodesIn q) ≡ d = cc in
+          let graph : x .rows ≡ graphIn q = ap (λ (y : Network). y .rows) e ∙ ap (λ (o : Option ℕ). networkAs q o .rows) f in
+          record {
+            passes = f;
+            measured =
+                subst (λ (l : List ℕ). MeasuredGraph l n d) (sym graph)
+                (subst (λ (m : ℕ). MeasuredGraph (graphIn q) m d) nodes (subst (MeasuredGraph (graphIn q) (nodesIn q)) links (network-measured q f)));
+            given = λ c i. givenAs (graph i) (sym nodes i) (sym links i) c;
+          }
