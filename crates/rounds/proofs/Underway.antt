@@ -2,7 +2,7 @@
 use Prim.Native.Nat.{ℕ, suc, _+_, _-_, _*_, _≤_, _<_}
 use mathlib.Core.Path.{_≡_, refl, sym, ap, subst⁻¹, _∙_}
 use mathlib.Core.Bool.{Bool, false, cond, _&&_}
-use mathlib.Core.List.{List}
+use mathlib.Core.List.{List, [], _∷_, _++_}
 use native.Mathlib.Nat.{le-refl}
 use native.Mathlib.Numerals.{add-one}
 use native.Mathlib.Omega.{arith}
@@ -18,16 +18,19 @@ use Rattle.protocol.specs.Paxos.{State}
 use Rattle.protocol.proofs.Kept.{kept-mono}
 use Rattle.pipeline.specs.Round.{Shared, shortestLog}
 use Rattle.pipeline.specs.View.{AllKept, Sharing, tableSize, statesOf, recordsOf, recordAt, sharedOf}
-use Rattle.rules.specs.Run.{Given, Running, Ended, begin, runRound, complete, endAfter, roundsFrom, runFor}
+use Rattle.rules.specs.Answers.{roundView}
+use Rattle.rules.specs.Run.{Given, Past, Running, Ended, begin, runRound, complete, endAfter, roundsFrom, runFor}
 use Rattle.rules.proofs.Coverage.{held-begin, held-round}
 use Rattle.rules.proofs.Ends.{from-limit, from-next, from-end, shortest-new}
 use Rattle.rules.proofs.Rounds.{rounds-more}
 use Rattle.rounds.specs.declared.run.Plan.{Plan}
 use Rattle.rounds.specs.declared.run.Run.{Run}
 use Rattle.rounds.specs.declared.run.Played.{Played}
+use Rattle.rounds.specs.declared.run.LastRound.{LastRound}
+use Rattle.rounds.specs.declared.run.LastRound.the-variants.{None, Of}
 use Rattle.rounds.specs.declared.run.Stopped.{Stopped}
 use Rattle.rounds.specs.declared.survey.Surveyed.{Surveyed}
-use Rattle.rounds.specs.Going.{planned, settingsOf, Workspace, Shows, Steady, Plays, Surveys, CanGo, Underway, Goes, NewRun}
+use Rattle.rounds.specs.Going.{planned, settingsOf, Workspace, Shows, Steady, Plays, Surveys, CanGo, viewIn, lastRound, Underway, Goes, NewRun}
 
 -- ---- what the code shows
 
@@ -72,7 +75,7 @@ module _ {p : Plan} {x : Run} {w : Workspace} {m : ℕ} where
 -- ---- before the first round
 
 pub underway-new : (graph : List ℕ) (p : Plan) (most : ℕ) (x : Run) (w : Workspace) → CanGo graph p most w → NewRun (p .nodes) x
-    → Underway graph p most 0 x w (w .snapshots)
+    → Underway graph p most 0 x None w (w .snapshots)
 unfolding runFor
 underway-new graph p most x w can new =
     let g : Given = planned graph p in
@@ -104,42 +107,55 @@ underway-new graph p most x w can new =
         progress = new .progress ∙ sym (shortest-new (p .nodes));
       };
       rest = ap (λ (m : ℕ). roundsFrom g m 0 (begin g)) all;
+      last-is = refl;
       in-time = omega arith;
     }
+
+-- ---- the last round
+
+last-snoc : (rounds : List Past) (p : Past) → lastRound (rounds ++ (p ∷ [])) ≡ Of (roundView p)
+last-snoc [] p = refl
+last-snoc (q ∷ []) p = refl
+last-snoc (q ∷ r ∷ rounds) p = last-snoc (r ∷ rounds) p
+
+last-next : (g : Given) (k : ℕ) (s : Running) → lastRound (runRound g k s .rounds) ≡ Of (viewIn g k s)
+unfolding runRound
+last-next g k s = last-snoc (s .rounds) _
 
 -- ---- the ends
 
 module _ {graph : List ℕ} {p : Plan} {most : ℕ} {b₀ : List ℕ} where
   -- the run of the definitions came to e, and so did the code
   goes-as : {r : Stopped} {w : Workspace} (e : Ended) → runFor (planned graph p) most ≡ e → Shows p (r .run) w b₀ (e .running) → Steady (planned graph p .heard) p (r .rounds) (r .run) w
-      → length (e .running .rounds) ≡ r .rounds → r .ended ≡ e .ended → r .rounds ≤ most → Goes graph p most r b₀ w
-  goes-as {r} {w} e q shows steady rounds ended few =
+      → length (e .running .rounds) ≡ r .rounds → r .last ≡ lastRound (e .running .rounds) → r .ended ≡ e .ended → r .rounds ≤ most → Goes graph p most r b₀ w
+  goes-as {r} {w} e q shows steady rounds last ended few =
       record {
         shows = subst⁻¹ (λ (y : Ended). Shows p (r .run) w b₀ (y .running)) q shows;
         steady = steady;
         rounds = ap (λ (y : Ended). length (y .running .rounds)) q ∙ rounds;
+        last = last ∙ sym (ap (λ (y : Ended). lastRound (y .running .rounds)) q);
         ended = ended ∙ sym (ap (λ (y : Ended). y .ended) q);
         few = few;
       }
 
-  module _ {k : ℕ} {x : Run} {w : Workspace} (u : Underway graph p most k x w b₀) where
+  module _ {k : ℕ} {x : Run} {last : LastRound} {w : Workspace} (u : Underway graph p most k x last w b₀) where
     -- no round is left
-    pub used-up : most ≤ k → Goes graph p most (record { run = x; rounds = k; ended = 0 }) b₀ w
+    pub used-up : most ≤ k → Goes graph p most (record { run = x; rounds = k; last = last; ended = 0 }) b₀ w
     unfolding roundsFrom
     used-up h =
         let none : most - k ≡ 0 = omega arith in
         goes-as (record { running = u .here; ended = 0 }) (sym (u .rest) ∙ ap (λ (m : ℕ). roundsFrom (planned graph p) m k (u .here)) none)
-        (u .going .shows) (u .going .steady) (u .going .rounds) refl (u .in-time)
+        (u .going .shows) (u .going .steady) (u .going .rounds) (u .last-is) refl (u .in-time)
 
     module _ (more : k < most) where
       from-here : roundsFrom (planned graph p) (suc (most - (k + 1))) k (u .here) ≡ runFor (planned graph p) most
       from-here = let left : most - k ≡ suc (most - (k + 1)) = omega arith in ap (λ (m : ℕ). roundsFrom (planned graph p) m k (u .here)) (sym left) ∙ u .rest
 
-      pub at-limit : p .config .«max_slots» ≤ x .flood .slot .0 → Goes graph p most (record { run = x; rounds = k; ended = 4 }) b₀ w
+      pub at-limit : p .config .«max_slots» ≤ x .flood .slot .0 → Goes graph p most (record { run = x; rounds = k; last = last; ended = 4 }) b₀ w
       at-limit h =
           goes-as (record { running = u .here; ended = 4 })
           (sym from-here ∙ from-limit (planned graph p) (most - (k + 1)) k (u .here) (le-leb (planned graph p .limit) (u .here .standing .slot) (omega (arith, u .going .shows .standing .slot))))
-          (u .going .shows) (u .going .steady) (u .going .rounds) refl (u .in-time)
+          (u .going .shows) (u .going .steady) (u .going .rounds) (u .last-is) refl (u .in-time)
 
       -- after one round more, whose end is told by what the survey of the logs saw
       module _ (below : x .flood .slot .0 < p .config .«max_slots») {r : Played} {w' : Workspace} (pl : Plays graph p k x w r w')
@@ -156,6 +172,9 @@ module _ {graph : List ℕ} {p : Plan} {most : ℕ} {b₀ : List ℕ} where
         rounds : length (next .rounds) ≡ k + 1
         rounds = rounds-more (planned graph p) k (u .here) ∙ ap (λ (m : ℕ). m + 1) (u .going .rounds)
 
+        seen-last : Of (r .view) ≡ lastRound (next .rounds)
+        seen-last = ap Of (pl .view b₀ (u .here) (u .going)) ∙ sym (last-next (planned graph p) k (u .here))
+
         abbrev told : ℕ
         told = cond (logs .complete) 1 (cond (eqb (r .run .carry .recorded .count) (p .config .«num_proposals») && ltb (p .config .«num_proposals» + 5 * p .diameter) k) 2 (cond (ltb (p .config .«num_proposals» + extraRounds) k) 3 0))
 
@@ -165,14 +184,14 @@ module _ {graph : List ℕ} {p : Plan} {most : ℕ} {b₀ : List ℕ} where
             cond ((seen .complete ∙ ap (complete (p .nodes) (p .config .«num_proposals»)) (states-are shown)) i) 1
             (cond (eqb (count-is shown i) (p .config .«num_proposals») && ltb (p .config .«num_proposals» + 5 * p .diameter) k) 2 (cond (ltb (p .config .«num_proposals» + extraRounds) k) 3 0))
 
-        pub at-end : (end : ℕ) → end ≡ told → (end ≡ 0 → ⊥) → Goes graph p most (record { run = showing (logs .shortest) (r .run); rounds = k + 1; ended = end }) b₀ w'
+        pub at-end : (end : ℕ) → end ≡ told → (end ≡ 0 → ⊥) → Goes graph p most (record { run = showing (logs .shortest) (r .run); rounds = k + 1; last = Of (r .view); ended = end }) b₀ w'
         at-end end e q =
             let same : endAfter (planned graph p) k next ≡ end = sym (e ∙ end-is) in
             goes-as (record { running = next; ended = endAfter (planned graph p) k next })
             (sym from-here ∙ from-end (planned graph p) (most - (k + 1)) k (u .here) under (ap (λ (m : ℕ). eqb m 0) same ∙ ne-eqb end 0 q))
-            (shows-as shown) (steady-as (pl .steady)) rounds (sym same) (omega (arith, more))
+            (shows-as shown) (steady-as (pl .steady)) rounds seen-last (sym same) (omega (arith, more))
 
-        pub goes-on : (end : ℕ) → end ≡ told → end ≡ 0 → Underway graph p most (k + 1) (showing (logs .shortest) (r .run)) w' b₀
+        pub goes-on : (end : ℕ) → end ≡ told → end ≡ 0 → Underway graph p most (k + 1) (showing (logs .shortest) (r .run)) (Of (r .view)) w' b₀
         goes-on end e z =
             record {
               here = next;
@@ -187,5 +206,6 @@ module _ {graph : List ℕ} {p : Plan} {most : ℕ} {b₀ : List ℕ} where
                   ap (λ (m : ℕ). roundsFrom (planned graph p) (most - (k + 1)) m next) (add-one k)
                   ∙ sym (from-next (planned graph p) (most - (k + 1)) k (u .here) under (eq-eqb _ 0 (sym (e ∙ end-is) ∙ z)))
                   ∙ from-here;
+              last-is = seen-last;
               in-time = omega (arith, more);
             }

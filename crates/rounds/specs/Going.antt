@@ -2,7 +2,7 @@
 use Prim.Native.Nat.{ℕ, _+_, _-_, _*_, _≤_, _<_}
 use mathlib.Core.Path.{_≡_}
 use mathlib.Core.Bool.{Bool}
-use mathlib.Core.List.{List}
+use mathlib.Core.List.{List, [], _∷_}
 use lib.ListN.{length, replicate}
 use Rattle.config.specs.Limits.{maxNodes, maxTerms, maxRepeats, maxRoundSlots, mostRounds}
 use Rattle.random.specs.Draws.{DrawNext}
@@ -15,10 +15,14 @@ use Rattle.pipeline.specs.View.{AllKept, statesOf, Sharing, sharedOf, tableSize
 use Rattle.rules.specs.Accepted.{Accepted}
 use Rattle.rules.specs.Coverage.{HeldPackets}
 use Rattle.rules.specs.Entries.{givenAs}
-use Rattle.rules.specs.Run.{Given, Running, begin, complete, preparedIn, floodedIn, runRound, roundsFrom, runFor}
+use Rattle.rules.specs.declared.answer.RoundView.{RoundView}
+use Rattle.rules.specs.Answers.{roundView}
+use Rattle.rules.specs.Run.{Given, Past, Running, begin, complete, preparedIn, floodedIn, runRound, roundsFrom, runFor}
 use Rattle.rounds.specs.declared.run.Plan.{Plan}
 use Rattle.rounds.specs.declared.run.Run.{Run}
 use Rattle.rounds.specs.declared.run.Played.{Played}
+use Rattle.rounds.specs.declared.run.LastRound.{LastRound}
+use Rattle.rounds.specs.declared.run.LastRound.the-variants.{None, Of}
 use Rattle.rounds.specs.declared.run.Stopped.{Stopped}
 use Rattle.rounds.specs.declared.survey.Surveyed.{Surveyed}
 
@@ -84,6 +88,10 @@ pub record Going (graph : List ℕ) (p : Plan) (k : ℕ) (x : Run) (w : Workspac
 
 -- ---- one round
 
+-- what is seen of round k
+abbrev pub viewIn : Given → ℕ → Running → RoundView
+viewIn g k s = record { packet = preparedIn g k s .packet; part = floodedIn g k s .part }
+
 -- round k can be played from x
 pub record CanPlay (graph : List ℕ) (p : Plan) (k : ℕ) (x : Run) (w : Workspace) : Type 0 where
   pub accepted : Accepted (planned graph p)
@@ -96,8 +104,7 @@ pub record CanPlay (graph : List ℕ) (p : Plan) (k : ℕ) (x : Run) (w : Worksp
 pub record Plays (graph : List ℕ) (p : Plan) (k : ℕ) (x : Run) (w : Workspace) (r : Played) (w' : Workspace) : Type 0 where
   pub steady : Steady (planned graph p .heard) p (k + 1) (r .run) w'
   pub shows : (b₀ : List ℕ) (s : Running) → Going graph p k x w b₀ s → Shows p (r .run) w' b₀ (runRound (planned graph p) k s)
-  pub packet : (b₀ : List ℕ) (s : Running) → Going graph p k x w b₀ s → r .packet ≡ preparedIn (planned graph p) k s .packet
-  pub part : (b₀ : List ℕ) (s : Running) → Going graph p k x w b₀ s → r .part ≡ floodedIn (planned graph p) k s .part
+  pub view : (b₀ : List ℕ) (s : Running) → Going graph p k x w b₀ s → r .view ≡ viewIn (planned graph p) k s
 
 -- ---- the logs
 
@@ -128,11 +135,18 @@ pub record CanGo (graph : List ℕ) (p : Plan) (most : ℕ) (w : Workspace) : Ty
   pub stream : DrawNext (p .config .seed) 0 (w .stream)
   pub room : p .config .«flood_repeats» ≤ length (w .queue)
 
+-- the last of some rounds
+abbrev pub lastRound : List Past → LastRound
+lastRound [] = None
+lastRound (p ∷ []) = Of (roundView p)
+lastRound (p ∷ q ∷ rounds) = lastRound (q ∷ rounds)
+
 -- Of a run that may take `most` rounds, k are played.
-pub record Underway (graph : List ℕ) (p : Plan) (most k : ℕ) (x : Run) (w : Workspace) (b₀ : List ℕ) : Type 0 where
+pub record Underway (graph : List ℕ) (p : Plan) (most k : ℕ) (x : Run) (last : LastRound) (w : Workspace) (b₀ : List ℕ) : Type 0 where
   pub here : Running
   pub going : Going graph p k x w b₀ here
   pub rest : roundsFrom (planned graph p) (most - k) k here ≡ runFor (planned graph p) most
+  pub last-is : last ≡ lastRound (here .rounds)
   pub in-time : k ≤ most
 
 -- The code's rounds have stopped where those of the definitions do.
@@ -140,6 +154,7 @@ pub record Goes (graph : List ℕ) (p : Plan) (most : ℕ) (r : Stopped) (b₀ :
   pub shows : Shows p (r .run) w b₀ (runFor (planned graph p) most .running)
   pub steady : Steady (planned graph p .heard) p (r .rounds) (r .run) w
   pub rounds : length (runFor (planned graph p) most .running .rounds) ≡ r .rounds
+  pub last : r .last ≡ lastRound (runFor (planned graph p) most .running .rounds)
   pub ended : r .ended ≡ runFor (planned graph p) most .ended
   pub few : r .rounds ≤ most
 

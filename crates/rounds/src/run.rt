@@ -9,7 +9,6 @@ use network::units::NodeId;
 use network::units::Slot;
 use phy::ci::flood_identical_round;
 use phy::ci::length_limit;
-use phy::packet::Packet;
 use phy::packet::Piggyback;
 use phy::slot::QUEUE_SIZE;
 use phy::slot::Radios;
@@ -21,6 +20,7 @@ use pipeline::round::prepare_round;
 use pipeline::round::process_round;
 use random::draws::STREAM_SIZE;
 use random::draws::begin_draws;
+use rules::answer::RoundView;
 ghost use mathlib.Core.Path.{_≡_};
 ghost use mathlib.Core.Bool.{cond, _&&_};
 ghost use lib.Dec.{eqb, ltb};
@@ -43,17 +43,23 @@ pub struct Run {
     pub progress: u64,
 }
 
-// One round that was run: where the run stands after it, its packet, and the nodes that took part.
+// One round that was run: where the run stands after it, and what is seen of it.
 pub struct Played {
     pub run: Run,
-    pub packet: Packet,
-    pub part: u64,
+    pub view: RoundView,
 }
 
-// A run that has stopped, after how many rounds, and its end; 0 where the rounds were used up.
+// The last round that was run, if one was.
+pub enum LastRound {
+    None,
+    Of(RoundView),
+}
+
+// A run that has stopped, after how many rounds, the last of them, and its end; 0 where the rounds were used up.
 pub struct Stopped {
     pub run: Run,
     pub rounds: u64,
+    pub last: LastRound,
     pub ended: u64,
 }
 
@@ -161,7 +167,8 @@ fn run_round(
         covered: x.covered + u64::count_ones(part) as u64,
         progress: x.progress,
     };
-    Played { run, packet, part }
+    let view = RoundView { packet, part };
+    Played { run, view }
 }
 
 // The end after round k, or 0.
@@ -198,17 +205,21 @@ fn play_rounds(
     let config = plan.config;
     let proposals = config.num_proposals;
     let mut x = new_run(plan.nodes);
+    let mut last = LastRound::None;
     let mut k = 0u64;
     while k < most {
         if config.max_slots <= x.flood.slot.0 {
             return Stopped {
                 run: x,
                 rounds: k,
+                last,
                 ended: 4,
             };
         }
         let played = run_round(graph, plan, k, x, queue, stream, states, history, snapshots);
         x = played.run;
+        let view = played.view;
+        last = LastRound::Of(view);
         let seen = survey(states, plan.nodes, proposals as usize);
         x.progress = seen.shortest;
         let records = x.carry.recorded.count;
@@ -218,6 +229,7 @@ fn play_rounds(
             return Stopped {
                 run: x,
                 rounds: k,
+                last,
                 ended: end,
             };
         }
@@ -225,6 +237,7 @@ fn play_rounds(
     Stopped {
         run: x,
         rounds: k,
+        last,
         ended: 0,
     }
 }

@@ -7,6 +7,8 @@ use Rattle.rules.specs.declared.answer.Answer.{Answer}
 use Rattle.rules.specs.declared.answer.Answer.the-variants.{Ran}
 use Rattle.rules.specs.declared.questions.Refusal.{Refusal}
 use Rattle.rules.specs.declared.questions.Refusal.the-variants.{None, Number}
+use Rattle.rules.specs.declared.answer.RoundView.{RoundView}
+use Rattle.rules.specs.Run.{Past}
 use Rattle.rules.specs.Entries.{Outcome}
 
 -- a refusal's number, or none
@@ -21,3 +23,7 @@ outcome a l r s = record { answer = a; logs = l; records = r; snapshots = s }
 -- a run that was not refused, with its summary
 abbrev pub ran : Summary → List ℕ → List ℕ → List ℕ → Outcome
 ran s logs records snapshots = outcome (Ran s) logs records snapshots
+
+-- what is seen of a round: its packet, and who took part
+abbrev pub roundView : Past → RoundView
+roundView p = record { packet = p .packet; part = p .flooded .part }

@@ -9,11 +9,11 @@ use Rattle.rounds.proofs.run.play_rounds.Statement.{statement}
 use Rattle.rounds.proofs.run.play_rounds.Tie as tie
 
 abbrev Inv-loop : tie.InvT-loop
-Inv-loop graph plan most queue₀ stream₀ states₀ history₀ snapshots₀ config proposals x₀ k₀ queue stream states history snapshots x k =
-    Underway graph plan most k x (workspace queue stream states history snapshots) snapshots₀
+Inv-loop graph plan most queue₀ stream₀ states₀ history₀ snapshots₀ config proposals x₀ last₀ k₀ queue stream states history snapshots x last k =
+    Underway graph plan most k x last (workspace queue stream states history snapshots) snapshots₀
 
 abbrev μ-loop : tie.MeasureT-loop
-μ-loop graph plan most queue₀ stream₀ states₀ history₀ snapshots₀ config proposals x₀ k₀ queue stream states history snapshots x k = most - k
+μ-loop graph plan most queue₀ stream₀ states₀ history₀ snapshots₀ config proposals x₀ last₀ k₀ queue stream states history snapshots x last k = most - k
 
 -- the places of the loop, of the test of the limit and of the round
 abbrev start : tie.At-loop Inv-loop μ-loop → tie.Start Inv-loop μ-loop
@@ -26,7 +26,7 @@ abbrev limited : tie.After-run-round Inv-loop μ-loop → tie.Else1 Inv-loop μ-
 limited c = c .before .before .before .before .before .before
 
 abbrev played : tie.After-end-after Inv-loop μ-loop → tie.After-run-round Inv-loop μ-loop
-played c = c .before .before .before .before .before .before .before .before
+played c = c .before .before .before .before .before .before .before .before .before
 
 new-run-requires : tie.Need-new-run-requires Inv-loop μ-loop
 new-run-requires c κs = c .before .before .before .pre .begins .accepted .few
@@ -67,13 +67,13 @@ run-round-requires c κs =
 
 survey-requires : tie.Need-survey-requires Inv-loop μ-loop
 survey-requires c κs =
-    let r = c .before .before .before .before .before .before in
+    let r = c .before .before .before .before .before .before .before in
     let ok = start (looped (limited r)) .pre .begins .accepted in
     record { kept = kept-all (r .run-round .ensures .steady); some = omega (arith, ok .two); few = ok .few; most = ok .proposals }
 
 end-after-requires : tie.Need-end-after-requires Inv-loop μ-loop
 end-after-requires c κs =
-    let ok = start (looped (limited (c .before .before .before .before .before .before .before))) .pre .begins .accepted in
+    let ok = start (looped (limited (c .before .before .before .before .before .before .before .before))) .pre .begins .accepted in
     (ok .proposals, omega (arith, ok .diameter-low))
 
 add-k : tie.Need-add-k Inv-loop μ-loop

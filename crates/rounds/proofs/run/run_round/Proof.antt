@@ -24,8 +24,8 @@ flooded c = c .before .before .before .before .before .before .before .before
 abbrev processed : tie.After-struct-known → tie.After-process-round
 processed c = c .before .before .before
 
-rem-t30 : tie.Need-rem-t30
-rem-t30 c = search needs
+rem-t31 : tie.Need-rem-t31
+rem-t31 c = search needs
 
 prepare-round-requires : tie.Need-prepare-round-requires
 prepare-round-requires c κs = let pre = c .before .before .before .before .before .before .before .before .pre in may-prepare (pre .accepted) (pre .early) (pre .going)
@@ -55,11 +55,11 @@ room done =
     let pre = start (prepared at) .pre in
     covered-fits (pre .accepted) (pre .early) (pre .going) (prepared at .prepare-round .ensures) (limited at .settings-of .ensures) (limited at .before .length-limit .ensures) (at .flood-identical-round .ensures) (done .process-round .ensures)
 
-cast-t30 : tie.Need-cast-t30
-cast-t30 c = let done = c .before .before in omega (arith, room done, start (prepared (flooded done)) .pre .early)
+cast-t31 : tie.Need-cast-t31
+cast-t31 c = let done = c .before .before in omega (arith, room done, start (prepared (flooded done)) .pre .early)
 
-add-t29 : tie.Need-add-t29
-add-t29 c = let done = processed c in omega (arith, room done, start (prepared (flooded done)) .pre .early)
+add-t30 : tie.Need-add-t30
+add-t30 c = let done = processed c in omega (arith, room done, start (prepared (flooded done)) .pre .early)
 
 same-length : tie.Need-same-length
 same-length c =
@@ -80,14 +80,14 @@ pub run-round-spec : {M : Type 1} → statement M
 run-round-spec =
     tie.close
     (tie.spec
-    rem-t30
+    rem-t31
     prepare-round-requires
     length-limit-requires
     settings-of-requires
     flood-identical-round-requires
     process-round-requires
-    cast-t30
-    add-t29
+    cast-t31
+    add-t30
     same-length
     same-length-2
     returns)
