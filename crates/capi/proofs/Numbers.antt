@@ -20,8 +20,8 @@ use Rattle.rules.specs.declared.answer.Answer.{Answer}
 use Rattle.metrics.specs.declared.ratios.Ratio.{Ratio}
 use Rattle.rules.specs.Networks.{RowsOrTopology, ofRows, ofTopology, networkQuestions}
 use Rattle.rules.specs.Questions.{runQuestions, runRefusalFor}
-use Rattle.rules.specs.Run.{Given}
-use Rattle.rules.specs.Entries.{outcomeOf, ranWith, outcomeFor}
+use Rattle.rules.specs.Entries.{outcomeFor}
+use Rattle.rules.proofs.Admitted.{refused-so}
 use Rattle.metrics.specs.Ratio.{ratioOf, question11, quotient}
 
 -- the questions' numbers are above 0 and below 100
@@ -39,15 +39,9 @@ first-numbered (q ∷ qs) k h e =
     go true p one rest = rest (rw p at e)
     go false p one rest = let f : some (q .1) ≡ some k = rw p at e in let g : q .1 ≡ k = cc in subst (λ (x : ℕ). within 1 99 x ≡ true) g one
 
--- an outcome that refuses tells the number of its question
-outcome-numbered : (o : Option ℕ) (g : Given) (logs records snapshots : List ℕ) (k : ℕ) → outcomeOf o g logs records snapshots .answer ≡ Answer.Refused k → o ≡ some k
-unfolding ranWith
-outcome-numbered none g logs records snapshots k e = let z : _≡_ {A = ℕ} 0 1 = cc in absurd (omega arith)
-outcome-numbered (some j) g logs records snapshots k e = cc
-
 pub run-numbered : (q : RowsOrTopology) (c : Config) (logs records snapshots : List ℕ) (k : ℕ) → outcomeFor q c logs records snapshots .answer ≡ Answer.Refused k → within 1 99 k ≡ true
 unfolding outcomeFor runRefusalFor
-run-numbered q c logs records snapshots k e = first-numbered (networkQuestions q ++ runQuestions c (length logs) (length records)) k (asked q) (outcome-numbered _ _ logs records snapshots k e)
+run-numbered q c logs records snapshots k e = first-numbered (networkQuestions q ++ runQuestions c (length logs) (length records)) k (asked q) (refused-so _ _ logs records snapshots k e)
   where
     asked : (q : RowsOrTopology) → numbered (networkQuestions q ++ runQuestions c (length logs) (length records)) ≡ true
     asked (ofRows rows n) = refl

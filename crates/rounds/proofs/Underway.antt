@@ -19,7 +19,7 @@ use Rattle.protocol.proofs.Kept.{kept-mono}
 use Rattle.pipeline.specs.Round.{Shared, shortestLog}
 use Rattle.pipeline.specs.View.{AllKept, Sharing, tableSize, statesOf, recordsOf, recordAt, sharedOf}
 use Rattle.rules.specs.Answers.{roundView}
-use Rattle.rules.specs.Run.{Given, Past, Running, Ended, begin, runRound, complete, endAfter, roundsFrom, runFor}
+use Rattle.rules.specs.Run.{Given, Past, Running, Ended, begin, pastIn, runRound, complete, endAfter, roundsFrom, runFor}
 use Rattle.rules.proofs.Coverage.{held-begin, held-round}
 use Rattle.rules.proofs.Ends.{from-limit, from-next, from-end, shortest-new}
 use Rattle.rules.proofs.Rounds.{rounds-more}
@@ -30,7 +30,7 @@ use Rattle.rounds.specs.declared.run.LastRound.{LastRound}
 use Rattle.rounds.specs.declared.run.LastRound.the-variants.{None, Of}
 use Rattle.rounds.specs.declared.run.Stopped.{Stopped}
 use Rattle.rounds.specs.declared.survey.Surveyed.{Surveyed}
-use Rattle.rounds.specs.Going.{planned, settingsOf, Workspace, Shows, Steady, Plays, Surveys, CanGo, viewIn, lastRound, Underway, Goes, NewRun}
+use Rattle.rounds.specs.Going.{planned, settingsOf, Workspace, Shows, Steady, Plays, Surveys, CanGo, lastRound, Underway, Goes, NewRun}
 
 -- ---- what the code shows
 
@@ -118,9 +118,9 @@ last-snoc [] p = refl
 last-snoc (q ∷ []) p = refl
 last-snoc (q ∷ r ∷ rounds) p = last-snoc (r ∷ rounds) p
 
-last-next : (g : Given) (k : ℕ) (s : Running) → lastRound (runRound g k s .rounds) ≡ Of (viewIn g k s)
+last-next : (g : Given) (k : ℕ) (s : Running) → lastRound (runRound g k s .rounds) ≡ Of (roundView (pastIn g k s))
 unfolding runRound
-last-next g k s = last-snoc (s .rounds) _
+last-next g k s = last-snoc (s .rounds) (pastIn g k s)
 
 -- ---- the ends
 

@@ -15,9 +15,8 @@ use Rattle.pipeline.specs.View.{AllKept, statesOf, Sharing, sharedOf, tableSize
 use Rattle.rules.specs.Accepted.{Accepted}
 use Rattle.rules.specs.Coverage.{HeldPackets}
 use Rattle.rules.specs.Entries.{givenAs}
-use Rattle.rules.specs.declared.answer.RoundView.{RoundView}
 use Rattle.rules.specs.Answers.{roundView}
-use Rattle.rules.specs.Run.{Given, Past, Running, begin, complete, preparedIn, floodedIn, runRound, roundsFrom, runFor}
+use Rattle.rules.specs.Run.{Given, Past, Running, begin, complete, pastIn, runRound, roundsFrom, runFor}
 use Rattle.rounds.specs.declared.run.Plan.{Plan}
 use Rattle.rounds.specs.declared.run.Run.{Run}
 use Rattle.rounds.specs.declared.run.Played.{Played}
@@ -88,10 +87,6 @@ pub record Going (graph : List ℕ) (p : Plan) (k : ℕ) (x : Run) (w : Workspac
 
 -- ---- one round
 
--- what is seen of round k
-abbrev pub viewIn : Given → ℕ → Running → RoundView
-viewIn g k s = record { packet = preparedIn g k s .packet; part = floodedIn g k s .part }
-
 -- round k can be played from x
 pub record CanPlay (graph : List ℕ) (p : Plan) (k : ℕ) (x : Run) (w : Workspace) : Type 0 where
   pub accepted : Accepted (planned graph p)
@@ -104,7 +99,7 @@ pub record CanPlay (graph : List ℕ) (p : Plan) (k : ℕ) (x : Run) (w : Worksp
 pub record Plays (graph : List ℕ) (p : Plan) (k : ℕ) (x : Run) (w : Workspace) (r : Played) (w' : Workspace) : Type 0 where
   pub steady : Steady (planned graph p .heard) p (k + 1) (r .run) w'
   pub shows : (b₀ : List ℕ) (s : Running) → Going graph p k x w b₀ s → Shows p (r .run) w' b₀ (runRound (planned graph p) k s)
-  pub view : (b₀ : List ℕ) (s : Running) → Going graph p k x w b₀ s → r .view ≡ viewIn (planned graph p) k s
+  pub view : (b₀ : List ℕ) (s : Running) → Going graph p k x w b₀ s → r .view ≡ roundView (pastIn (planned graph p) k s)
 
 -- ---- the logs
 

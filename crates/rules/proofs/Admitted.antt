@@ -2,17 +2,18 @@
 use Prim.Native.Nat.{ℕ, _≤_}
 use mathlib.Core.List.{List}
 use mathlib.Core.Option.{Option, none, some}
-use mathlib.Core.Path.{_≡_, refl, ap}
+use mathlib.Core.Path.{_≡_, refl, ap, _∙_}
 use native.Mathlib.Omega.{arith}
 use lib.ListN.{length}
 use Rattle.config.specs.Limits.{logSize, recordsSize}
 use Rattle.network.specs.Questions.{firstNo}
 use Rattle.network.proofs.Distances.{diameter-lt}
+use Rattle.network.proofs.Within.{all-yes}
 use Rattle.metrics.specs.declared.summary.Summary.{Summary}
 use Rattle.config.specs.declared.Config.{Config}
-use Rattle.rules.specs.declared.answer.Answer.the-variants.{Ran}
+use Rattle.rules.specs.declared.answer.Answer.the-variants.{Ran, Refused}
 use Rattle.rules.specs.Networks.{RowsOrTopology, networkQuestions}
-use Rattle.rules.specs.Questions.{configQuestions, bufferQuestions, runQuestions, runRefusalFor}
+use Rattle.rules.specs.Questions.{configQuestions, bufferQuestions, runQuestions, refusalFor, runRefusalFor}
 use Rattle.rules.specs.Accepted.{MeasuredGraph, Accepted}
 use Rattle.rules.specs.Run.{Given, run}
 use Rattle.rules.specs.Entries.{summaryOf, ranWith, givenAs, givenFor, outcomeOf, outcomeFor}
@@ -51,21 +52,29 @@ unfolding ranWith
 ran-so none g logs records snapshots s e = (refl, cc)
 ran-so (some k) g logs records snapshots s e = absurd (let z : _≡_ {A = ℕ} 0 1 = cc in omega arith)
 
+-- a run that is refused
+pub refused-so : (o : Option ℕ) (g : Given) (logs records snapshots : List ℕ) (k : ℕ) → outcomeOf o g logs records snapshots .answer ≡ Refused k → o ≡ some k
+unfolding ranWith
+refused-so none g logs records snapshots k e = absurd (let z : _≡_ {A = ℕ} 0 1 = cc in omega arith)
+refused-so (some j) g logs records snapshots k e = cc
+
 -- An accepted run: every question is answered "yes", and the outcome and the summary are those of the run.
 pub record Admitted (q : RowsOrTopology) (c : Config) (logs records snapshots : List ℕ) (s : Summary) : Type 0 where
+  pub passes : refusalFor q c ≡ none
   pub accepted : Accepted (givenFor q c)
   pub roomy : Roomy logs records
   pub ran : outcomeFor q c logs records snapshots ≡ ranWith (givenFor q c) logs records snapshots
   pub summary : summaryOf (givenFor q c) (run (givenFor q c)) ≡ s
 
 pub admitted : (q : RowsOrTopology) (c : Config) (logs records snapshots : List ℕ) (s : Summary) → outcomeFor q c logs records snapshots .answer ≡ Ran s → Admitted q c logs records snapshots s
-unfolding outcomeFor runRefusalFor
+unfolding outcomeFor refusalFor runRefusalFor
 admitted q c logs records snapshots s e =
     let g : Given = givenFor q c in
     let r = ran-so (runRefusalFor q c (length logs) (length records)) g logs records snapshots s e in
     let yes = both-none (networkQuestions q) (runQuestions c (length logs) (length records)) (r .0) in
     let pass = both-none (configQuestions c) (bufferQuestions (length logs) (length records)) (yes .1) in
     record {
+      passes = all-yes (networkQuestions q) (configQuestions c) (yes .0) ∙ pass .0;
       accepted = accepts c (network-measured q (yes .0)) (pass .0);
       roomy = roomy logs records (pass .1);
       ran = ap (λ (o : Option ℕ). outcomeOf o g logs records snapshots) (r .0);

@@ -1,9 +1,11 @@
 -- The questions in order, and what those that pass leave. Assumes nothing.
 use Prim.Native.Nat.{ℕ, _≤_}
 use mathlib.Core.Path.{_≡_, refl}
-use mathlib.Core.Bool.{Bool, true}
+use mathlib.Core.Bool.{Bool, true, false, cond, _&&_}
 use mathlib.Core.List.{List, [], _∷_, _++_}
-use mathlib.Core.Option.{none}
+use mathlib.Core.Logic.{_⊎_, inl, inr}
+use mathlib.Core.Option.{none, some}
+use native.Mathlib.Omega.{arith}
 use borrow.Author.Tests.{leb-true}
 use lib.Dec.{leb}
 use Rattle.config.specs.declared.Config.{Config}
@@ -22,6 +24,17 @@ both-none (q ∷ qs) more e =
     let r = first-yes q (qs ++ more) e in
     let both = both-none qs more (r .1) in
     (rw (r .0) (both .0), both .1)
+
+-- the first "no" is in the one part or in the other
+pub either-no : (qs more : List (Bool × ℕ)) (k : ℕ) → firstNo (qs ++ more) ≡ some k → (firstNo qs ≡ some k) ⊎ ((firstNo qs ≡ none) × (firstNo more ≡ some k))
+either-no [] more k e = inr (refl, e)
+either-no (q ∷ qs) more k e = go (q .0) e (either-no qs more k)
+  where
+    go : (b : Bool) → cond b (firstNo (qs ++ more)) (some (q .1)) ≡ some k
+        → (firstNo (qs ++ more) ≡ some k → (firstNo qs ≡ some k) ⊎ ((firstNo qs ≡ none) × (firstNo more ≡ some k)))
+        → (cond b (firstNo qs) (some (q .1)) ≡ some k) ⊎ ((cond b (firstNo qs) (some (q .1)) ≡ none) × (firstNo more ≡ some k))
+    go true e rest = rest e
+    go false e rest = inl e
 
 -- every question is answered "yes"
 abbrev Yes : List (Bool × ℕ) → Type 0
@@ -53,6 +66,14 @@ config-facts c e =
       proposals = leb-true (c .«num_proposals») maxTerms (y .1 .1 .1 .0);
       interval = leb-true 1 (c .«snapshot_interval») (y .1 .1 .1 .1 .0);
     }
+
+-- question 10 is the only one put to the buffers
+pub buffer-no : (logs records k : ℕ) → firstNo (bufferQuestions logs records) ≡ some k → k ≡ 10
+buffer-no logs records k e = go (leb logSize logs && leb recordsSize records) e
+  where
+    go : (b : Bool) → cond b none (some 10) ≡ some k → k ≡ 10
+    go true e = let z : _≡_ {A = ℕ} 0 1 = cc in absurd (omega arith)
+    go false e = cc
 
 pub buffer-facts : (logs records : ℕ) → firstNo (bufferQuestions logs records) ≡ none → (logSize ≤ logs) × (recordsSize ≤ records)
 buffer-facts logs records e =

@@ -3,6 +3,7 @@
 --     Found        the network that is asked for
 --     Rounds       bounds of a round
 --     Ends         one round more, or an end; what every round keeps
+--     FirstRounds  the rounds of a run one by one
 --     Admitted     what acceptance says of a run
 --     Outcomes     the outcome of a run, from what asking for its network answered
 --     Votes        unions and sizes of sets of nodes, and the set of the initiators of consecutive rounds
@@ -22,6 +23,7 @@ pub mod FirstNo
 pub mod Found
 pub mod Rounds
 pub mod Ends
+pub mod FirstRounds
 pub mod Admitted
 pub mod Outcomes
 pub mod Votes

@@ -71,6 +71,10 @@ floodedIn g k r =
     round (setupOf g (r .shared)) (lengthLimit (g .roundSlots) (g .diameter) (g .repeats)) (initiatorOf (g .nodes) k)
     (preparedIn g k r .packet) (r .standing)
 
+-- round k as it is kept among the rounds
+abbrev pub pastIn : Given → ℕ → Running → Past
+pastIn g k r = record { initiator = initiatorOf (g .nodes) k; before = r .standing; packet = preparedIn g k r .packet; flooded = floodedIn g k r }
+
 -- Round k: prepare, flood, process.
 unfoldable pub runRound : Given → ℕ → Running → Running
 runRound g k r =
@@ -80,7 +84,7 @@ runRound g k r =
       standing = flooded .after;
       shared = processRound (g .nodes) (prepared .packet) (flooded .after .slot) (flooded .part) (prepared .shared);
       covered = r .covered + flooded .covered;
-      rounds = r .rounds ++ (record { initiator = initiatorOf (g .nodes) k; before = r .standing; packet = prepared .packet; flooded = flooded } ∷ []);
+      rounds = r .rounds ++ (pastIn g k r ∷ []);
     }
 
 -- all logs hold each of the P terms

@@ -1,0 +1,2 @@
+-- The laws of a look ahead.
+pub mod Seen

@@ -1,0 +1,2 @@
+-- What a look ahead answers.
+pub mod Preview

@@ -1,0 +1,122 @@
+// A look ahead to one round of a run: its packet and the nodes that take part. No buffer is lent, and nothing is written.
+use config::Config;
+use config::limits::ENOUGH_ROUNDS;
+use config::limits::MAX_NODES;
+use pipeline::carry::ALL_STATES;
+use pipeline::carry::FEW_NODES;
+use pipeline::carry::FEW_STATES;
+use pipeline::carry::SOME_NODES;
+use pipeline::carry::SOME_STATES;
+use pipeline::records::HISTORY_SIZE;
+use rounds::run::LastRound;
+use rounds::run::Plan;
+use rounds::run::play;
+use rules::answer::RoundView;
+use rules::networks::Extent;
+use rules::networks::Network;
+use rules::networks::network_of_rows;
+use rules::networks::network_of_topology;
+use rules::questions::Refusal;
+use rules::questions::config_refusal;
+ghost use Prim.Native.Nat.{_<_};
+ghost use mathlib.Core.Path.{_≡_};
+ghost use lib.ListN.{replicate};
+ghost use Rattle.config.specs.Limits.{mostRounds};
+ghost use Rattle.pipeline.specs.View.{tableSize};
+ghost use Rattle.rules.specs.Accepted.{Accepted};
+ghost use Rattle.rules.specs.Networks.{RowsOrTopology, ofRows, ofTopology, networkFor, AskedFor};
+ghost use Rattle.rounds.specs.Going.{planned};
+ghost use Rattle.preview.specs.Preview.{previewIn, previewFor};
+
+// What a look ahead answers: the round, or the refusal with its number.
+pub enum Preview {
+    Round(RoundView),
+    Refused(u64),
+}
+
+// The run ends before that round.
+const NO_SUCH_ROUND: u64 = 13;
+
+// Round k, over a table of states that are still empty. Plays rounds 0 to k, with no place for a snapshot.
+fn preview_over(graph: &[u64; MAX_NODES], plan: Plan, k: u64, states: &mut [u64]) -> Preview
+    requires { ⌜ Accepted (planned (now graph) plan) × (k < mostRounds (plan .config .«num_proposals»)) × (now states ≡ replicate (tableSize (plan .nodes)) 0) ⌝ }
+    ensures { λ r. ⌜ r ≡ previewIn (planned (now (graph .entry)) plan) k ⌝ }
+{
+    let mut history = [0u64; HISTORY_SIZE];
+    let mut snapshots = [0u64; 0];
+    let stopped = play(graph, plan, k + 1, states, &mut history, &mut snapshots);
+    let last = stopped.last;
+    match last {
+        LastRound::None => Preview::Refused(NO_SUCH_ROUND),
+        LastRound::Of(view) => {
+            if stopped.rounds <= k {
+                return Preview::Refused(NO_SUCH_ROUND);
+            }
+            Preview::Round(view)
+        }
+    }
+}
+
+// Round k of the run of a graph. No run has more rounds than are enough. A table of states that fits few nodes takes
+// less time to zero.
+fn preview_graph(graph: &[u64; MAX_NODES], plan: Plan, k: u64) -> Preview
+    requires { ⌜ Accepted (planned (now graph) plan) ⌝ }
+    ensures { λ r. ⌜ r ≡ previewIn (planned (now (graph .entry)) plan) k ⌝ }
+{
+    if plan.config.num_proposals + ENOUGH_ROUNDS <= k {
+        return Preview::Refused(NO_SUCH_ROUND);
+    }
+    if plan.nodes <= FEW_NODES {
+        let mut few = [0u64; FEW_STATES];
+        return preview_over(graph, plan, k, &mut few);
+    }
+    if plan.nodes <= SOME_NODES {
+        let mut some = [0u64; SOME_STATES];
+        return preview_over(graph, plan, k, &mut some);
+    }
+    let mut all = [0u64; ALL_STATES];
+    preview_over(graph, plan, k, &mut all)
+}
+
+// Round k of the run of a network that was asked for: questions 5 to 9, then the round.
+fn preview_network(network: Network, config: Config, k: u64) -> Preview
+    requires { ⌜ AskedFor network ⌝ }
+    ensures { λ r. ⌜ ((q : RowsOrTopology) → network ≡ networkFor q → r ≡ previewFor q config k) ⌝ }
+{
+    let extent = network.extent;
+    match extent {
+        Extent::Refused(question) => Preview::Refused(question),
+        Extent::Of(nodes, diameter) => {
+            let refusal = config_refusal(config);
+            match refusal {
+                Refusal::Number(question) => Preview::Refused(question),
+                Refusal::None => {
+                    let graph = network.rows;
+                    let plan = Plan {
+                        nodes,
+                        diameter,
+                        config,
+                    };
+                    preview_graph(&graph, plan, k)
+                }
+            }
+        }
+    }
+}
+
+// Round k, the first being 0, of the run of n nodes with these rows.
+pub fn preview_rows(rows: &[u32], n: u64, config: Config, k: u64) -> Preview
+    ensures { λ r. ⌜ r ≡ previewFor (ofRows (now (rows .entry)) n) config k ⌝ }
+{
+    let network = network_of_rows(rows, n);
+    preview_network(network, config, k)
+}
+
+// Round k, the first being 0, of the run of the topology with that number. `first` is the number of nodes, for a grid of
+// rows, and `second` a grid's columns or a tree's branching factor.
+pub fn preview_topology(topology: u64, first: u64, second: u64, config: Config, k: u64) -> Preview
+    ensures { λ r. ⌜ r ≡ previewFor (ofTopology topology first second) config k ⌝ }
+{
+    let network = network_of_topology(topology, first, second);
+    preview_network(network, config, k)
+}
