@@ -17,6 +17,8 @@ use Rattle.metrics.specs.declared.summary.Summary.{Summary}
 use Rattle.rules.specs.Entries.{Outcome}
 use Rattle.rules.specs.Answers.{outcome}
 use Rattle.metrics.specs.Ratio.{ratioOf}
+use Rattle.preview.specs.declared.Preview.{Preview}
+use Rattle.capi.specs.Previews.{packetSize, previewResult, returnedPreview}
 use Rattle.capi.specs.Capi.{short, summarySize, builtResult, returnedRows, measuredResult, returnedDiameter, ratioResult, returnedRatio, summaryNumbers, summaryAt, returnedOf, resultOf, withSummary, returned, returnedOutcome, returnedRun}
 
 module _ (topology first second : ℕ) (out nodes : List ℕ) where
@@ -79,3 +81,17 @@ module _ (o : Outcome) (summary logs records snapshots : List ℕ) where
 -- a summary is read as it was written, whatever follows it
 pub summary-back : (s : Summary) (l : List ℕ) → summaryAt (summaryNumbers s ++ l) ≡ s
 summary-back s l = refl
+
+-- a look ahead
+module _ (answer : Preview) (packet part : List ℕ) where
+  pub no-packet : length packet < packetSize → _≡_ {A = ℕ × List ℕ × List ℕ} (short, packet, part) (returnedPreview answer packet part)
+  unfolding returnedPreview
+  no-packet h = rw (lt-leb _ _ h)
+
+  pub no-part : length part < 1 → _≡_ {A = ℕ × List ℕ × List ℕ} (short, packet, part) (returnedPreview answer packet part)
+  unfolding returnedPreview
+  no-part h = rw (lt-leb 1 (length part) h, and-false)
+
+  pub preview-returned : packetSize ≤ length packet → 1 ≤ length part → (x : Preview) → x ≡ answer → previewResult x packet part ≡ returnedPreview answer packet part
+  unfolding returnedPreview
+  preview-returned h l x e = rw (le-leb _ _ h, le-leb 1 (length part) l) (ap (λ (y : Preview). previewResult y packet part) e)

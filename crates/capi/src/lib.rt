@@ -1,6 +1,7 @@
 // The entries for programs in C. Each takes numbers and slices alone, where a slice is a pointer and a length in C, and
 // returns 0 or the number of the refusal, which leaves every slice as it was. `include/ctsim.h` declares them.
 mod convert;
+mod previews;
 
 use convert::SUMMARY_SIZE;
 use convert::config_from;
@@ -14,6 +15,10 @@ use network::distance::Measured;
 use network::distance::measure;
 use network::topology::Built;
 use network::topology::rows;
+use preview::preview_rows;
+use preview::preview_topology;
+use previews::PACKET_SIZE;
+use previews::write_preview;
 use random::draws::draws;
 use sim::entries::run_rows;
 use sim::entries::run_topology;
@@ -22,9 +27,12 @@ ghost use mathlib.Core.Path.{_≡_};
 ghost use mathlib.Core.List.{List};
 ghost use lib.Ieee.{Float};
 ghost use lib.ListN.{length};
+ghost use Rattle.preview.specs.Preview.{previewFor};
+ghost use Rattle.rules.specs.Networks.{ofRows, ofTopology};
 ghost use Rattle.random.specs.Draws.{draw};
 ghost use Rattle.random.specs.Table.{tabulate};
 ghost use Rattle.capi.specs.Capi.{returnedRows, returnedDiameter, returnedRatio, linkPdr, floodCoverage, returnedOf, configFrom, returned, returnedRunOfTopology, returnedRunOfRows};
+ghost use Rattle.capi.specs.Previews.{returnedPreview};
 
 // What only these entries return: a slice for results is too short.
 const SHORT: u64 = 100;
@@ -204,4 +212,93 @@ pub extern "C" fn ctsim_run_rows(
     );
     let answer = run_rows(rows, n, config, logs, records, snapshots);
     write_answer(answer, summary)
+}
+
+// A look ahead to one round of a run of the topology with that number.
+#[no_mangle]
+pub extern "C" fn ctsim_preview_topology(
+    topology: u64,
+    first: u64,
+    second: u64,
+    repeats: u64,
+    round_slots_given: u64,
+    round_slots: u64,
+    loss: f64,
+    seed: u64,
+    proposals: u64,
+    interval: u64,
+    limit: u64,
+    round: u64,
+    packet: &mut [u64],
+    part: &mut [u64],
+) -> u64
+    ensures { λ r. ⌜
+        _≡_ {A = ℕ × List ℕ × List ℕ} (r, now (packet .exit), now (part .exit))
+        (returnedPreview
+        (previewFor (ofTopology topology first second) (configFrom repeats «round_slots_given» «round_slots» loss seed proposals interval limit) round)
+        (now (packet .entry)) (now (part .entry)))
+        ⌝ }
+{
+    if packet.len() < PACKET_SIZE {
+        return SHORT;
+    }
+    if part.len() < 1 {
+        return SHORT;
+    }
+    let config = config_from(
+        repeats,
+        round_slots_given,
+        round_slots,
+        loss,
+        seed,
+        proposals,
+        interval,
+        limit,
+    );
+    let answer = preview_topology(topology, first, second, config, round);
+    write_preview(answer, packet, part)
+}
+
+// A look ahead to one round of a run of n nodes with these rows.
+#[no_mangle]
+pub extern "C" fn ctsim_preview_rows(
+    rows: &[u32],
+    n: u64,
+    repeats: u64,
+    round_slots_given: u64,
+    round_slots: u64,
+    loss: f64,
+    seed: u64,
+    proposals: u64,
+    interval: u64,
+    limit: u64,
+    round: u64,
+    packet: &mut [u64],
+    part: &mut [u64],
+) -> u64
+    ensures { λ r. ⌜
+        _≡_ {A = ℕ × List ℕ × List ℕ} (r, now (packet .exit), now (part .exit))
+        (returnedPreview
+        (previewFor (ofRows (now (rows .entry)) n) (configFrom repeats «round_slots_given» «round_slots» loss seed proposals interval limit) round)
+        (now (packet .entry)) (now (part .entry)))
+        ⌝ }
+{
+    if packet.len() < PACKET_SIZE {
+        return SHORT;
+    }
+    if part.len() < 1 {
+        return SHORT;
+    }
+    let config = config_from(
+        repeats,
+        round_slots_given,
+        round_slots,
+        loss,
+        seed,
+        proposals,
+        interval,
+        limit,
+    );
+    let answer = preview_rows(rows, n, config, round);
+    write_preview(answer, packet, part)
 }
