@@ -4,6 +4,7 @@ use crate::clock::processor_seconds;
 use crate::exact::Exact;
 use crate::library::{self, Buffer, Buffers};
 use crate::library::{LOGS_LENGTH, RECORDS_LENGTH, SNAPSHOT_LENGTH, SUMMARY_LENGTH};
+use crate::previews::Previewed;
 use oracle::{Answer, Input, Summary};
 use std::fmt::Display;
 
@@ -18,15 +19,15 @@ pub struct Checked {
     pub exact: bool,
     /// The first difference.
     pub difference: Option<String>,
-    /// The library's processor time.
+    /// The library's processor time for the run.
     pub seconds: f64,
+    pub previewed: Previewed,
 }
 
 /// Compares ctsim's answer with the library's. The line's number fixes the marks and the lengths of
 /// the buffers.
 pub fn check(input: &Input, answer: &Answer, number: u64) -> Checked {
-    // Times an odd number, so that all bits of the mark vary.
-    let mark = (number + 1).wrapping_mul(0x9e37_79b9_7f4a_7c15);
+    let mark = mark_of(number);
     let (result, run, panic) = match answer {
         Answer::Refused(refusal) => (u64::from(*refusal), None, None),
         Answer::Ran(run) => (0, Some(run), None),
@@ -43,18 +44,26 @@ pub fn check(input: &Input, answer: &Answer, number: u64) -> Checked {
         write(run, &mut expected);
     }
     let exact = run.and_then(|run| Exact::of(input, run));
+    let mut previewed = Previewed::of(input, answer, mark);
     let not_exact = || exact.as_ref()?.difference(run?, &found);
     let difference = panic
         .or_else(|| result_differs("result", result, returned))
         .or_else(|| contents_differ(&expected, &found))
         .or_else(not_exact)
-        .or_else(|| short_differs(input, mark, result));
+        .or_else(|| short_differs(input, mark, result))
+        .or_else(|| previewed.difference.take());
     Checked {
         cut,
         exact: exact.is_some(),
         difference,
         seconds,
+        previewed,
     }
+}
+
+/// Times an odd number, so that all bits of the mark vary.
+pub(crate) fn mark_of(number: u64) -> u64 {
+    number.wrapping_add(1).wrapping_mul(0x9e37_79b9_7f4a_7c15)
 }
 
 /// Buffers full of marks, and long enough but for the snapshots, of which three lengths are tried:
@@ -102,7 +111,7 @@ fn write(run: &Summary, buffers: &mut Buffers) {
 fn numbers(run: &Summary) -> [u64; SUMMARY_LENGTH] {
     [
         run.nodes as u64,
-        run.rounds as u64,
+        run.rounds.len() as u64,
         run.slots,
         run.ended.into(),
         run.listen,
@@ -130,12 +139,16 @@ fn contents_differ(expected: &Buffers, found: &Buffers) -> Option<String> {
         })
 }
 
-fn result_differs(name: &str, expected: u64, found: u64) -> Option<String> {
+pub(crate) fn result_differs(name: &str, expected: u64, found: u64) -> Option<String> {
     (expected != found).then(|| format!("{name}: expected {expected}, found {found}"))
 }
 
 /// Expected is what ctsim gives, or the mark in a place that is to stay untouched.
-fn differs<T: Display + PartialEq>(name: &str, expected: &[T], found: &[T]) -> Option<String> {
+pub(crate) fn differs<T: Display + PartialEq>(
+    name: &str,
+    expected: &[T],
+    found: &[T],
+) -> Option<String> {
     let at = (0..expected.len()).find(|&at| expected[at] != found[at])?;
     let (expected, found) = (&expected[at], &found[at]);
     Some(format!("{name}[{at}]: expected {expected}, found {found}"))

@@ -68,14 +68,10 @@ impl Exact {
             ("flood", self.flood, summary[5]),
             ("sleep", self.sleep, summary[6]),
             ("records", self.proposals as u64, summary[14]),
-            (
-                "rounds of ctsim",
-                rounds as u64,
-                run.round_starts.len() as u64,
-            ),
+            ("rounds of ctsim", rounds as u64, run.rounds.len() as u64),
         ];
-        let starts = self.starts.iter().zip(&run.round_starts);
-        numbers.extend(starts.map(|(start, of_ctsim)| ("round of ctsim", *start, *of_ctsim)));
+        let starts = self.starts.iter().zip(&run.rounds);
+        numbers.extend(starts.map(|(start, round)| ("round of ctsim", *start, round.start)));
         for t in 0..self.proposals {
             let record = &found.records.places[3 * t..];
             numbers.push(("record id", t as u64, record[0]));

@@ -5,4 +5,5 @@ pub mod check;
 pub mod clock;
 pub mod exact;
 pub mod library;
+pub mod previews;
 pub mod tally;

@@ -46,6 +46,42 @@ extern "C" {
         snapshots: *mut u64,
         snapshots_length: usize,
     ) -> u64;
+    fn ctsim_preview_topology(
+        topology: u64,
+        first: u64,
+        second: u64,
+        repeats: u64,
+        round_slots_given: u64,
+        round_slots: u64,
+        loss: f64,
+        seed: u64,
+        proposals: u64,
+        interval: u64,
+        limit: u64,
+        round: u64,
+        packet: *mut u64,
+        packet_length: usize,
+        part: *mut u64,
+        part_length: usize,
+    ) -> u64;
+    fn ctsim_preview_rows(
+        rows: *const u32,
+        rows_length: usize,
+        n: u64,
+        repeats: u64,
+        round_slots_given: u64,
+        round_slots: u64,
+        loss: f64,
+        seed: u64,
+        proposals: u64,
+        interval: u64,
+        limit: u64,
+        round: u64,
+        packet: *mut u64,
+        packet_length: usize,
+        part: *mut u64,
+        part_length: usize,
+    ) -> u64;
 }
 
 pub const SUMMARY_LENGTH: usize = 16;
@@ -53,6 +89,7 @@ pub const LOGS_LENGTH: usize = 2080;
 pub const RECORDS_LENGTH: usize = 192;
 /// Numbers of one snapshot.
 pub const SNAPSHOT_LENGTH: usize = 5;
+pub const PART_LENGTH: usize = 1;
 
 /// The first places are lent; those behind them are not the library's to write.
 #[derive(Clone)]
@@ -79,14 +116,26 @@ pub struct Buffers {
     pub snapshots: Buffer<u64>,
 }
 
-/// Runs the input, refused or not, and gives back what the entry returns. `any` stands for two
-/// arguments that may be any number: that round slots are given, where it is not 0, and round
-/// slots that are not given.
-pub fn run(input: &Input, any: u64, buffers: &mut Buffers) -> u64 {
-    let (given, round_slots) = match input.round_slots {
+/// What a preview writes to.
+#[derive(Clone)]
+pub struct PreviewBuffers {
+    pub packet: Buffer<u64>,
+    pub part: Buffer<u64>,
+}
+
+/// Whether round slots are given, and the round slots. `any` stands for two arguments that may be
+/// any number: that round slots are given, where it is not 0, and round slots that are not given.
+fn round_slots(input: &Input, any: u64) -> (u64, u64) {
+    match input.round_slots {
         Some(slots) => (any.max(1), slots),
         None => (0, any),
-    };
+    }
+}
+
+/// Runs the input, refused or not, and gives back what the entry returns. `any` is for
+/// `round_slots`.
+pub fn run(input: &Input, any: u64, buffers: &mut Buffers) -> u64 {
+    let (given, round_slots) = round_slots(input, any);
     let loss = f64::from_bits(input.loss_rate);
     let Buffers {
         summary,
@@ -145,6 +194,62 @@ pub fn run(input: &Input, any: u64, buffers: &mut Buffers) -> u64 {
                 records.lent,
                 snapshots.places.as_mut_ptr(),
                 snapshots.lent,
+            )
+        },
+    }
+}
+
+/// Previews a round of the input, refused or not, and gives back what the entry returns. `any` is
+/// for `round_slots`.
+pub fn preview(input: &Input, any: u64, round: u64, buffers: &mut PreviewBuffers) -> u64 {
+    let (given, round_slots) = round_slots(input, any);
+    let loss = f64::from_bits(input.loss_rate);
+    let PreviewBuffers { packet, part } = buffers;
+    match &input.graph {
+        // Safety: each pointer is that of a vector with at least so many places.
+        Graph::Topology {
+            number,
+            nodes,
+            second,
+        } => unsafe {
+            ctsim_preview_topology(
+                *number,
+                *nodes,
+                *second,
+                input.flood_repeats,
+                given,
+                round_slots,
+                loss,
+                input.seed,
+                input.num_proposals,
+                input.snapshot_interval,
+                input.max_slots,
+                round,
+                packet.places.as_mut_ptr(),
+                packet.lent,
+                part.places.as_mut_ptr(),
+                part.lent,
+            )
+        },
+        // Safety: as above.
+        Graph::Rows { nodes, rows } => unsafe {
+            ctsim_preview_rows(
+                rows.as_ptr(),
+                rows.len(),
+                *nodes,
+                input.flood_repeats,
+                given,
+                round_slots,
+                loss,
+                input.seed,
+                input.num_proposals,
+                input.snapshot_interval,
+                input.max_slots,
+                round,
+                packet.places.as_mut_ptr(),
+                packet.lent,
+                part.places.as_mut_ptr(),
+                part.lent,
             )
         },
     }

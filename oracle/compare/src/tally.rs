@@ -1,6 +1,7 @@
 //! What a comparison saw.
 
 use crate::check::Checked;
+use crate::previews::Previewed;
 use oracle::{Answer, Graph, Input, Summary};
 use std::fmt;
 
@@ -19,10 +20,25 @@ pub struct Tally {
     exact: u64,
     exact_of_rows: u64,
     exact_above_zero: u64,
+    previews: Previews,
     ctsim_seconds: f64,
     library_seconds: f64,
     differences: u64,
     first: Option<Difference>,
+}
+
+/// Pairs of a line and a round of it.
+#[derive(Default)]
+struct Previews {
+    of_refused: u64,
+    of_runs: u64,
+    of_rows: u64,
+    ended: [u64; 5],
+    lossy: u64,
+    nacks: u64,
+    piggybacks: u64,
+    past_end: u64,
+    seconds: f64,
 }
 
 struct Difference {
@@ -44,6 +60,7 @@ impl Tally {
     pub fn add(&mut self, number: u64, input: &Input, answer: &Answer, checked: Checked) {
         self.lines += 1;
         self.library_seconds += checked.seconds;
+        self.previews.add(input, answer, &checked.previewed);
         match answer {
             Answer::Refused(refusal) => self.refused[*refusal as usize] += 1,
             Answer::Ran(run) => self.add_run(input, run, &checked),
@@ -63,12 +80,12 @@ impl Tally {
     }
 
     fn add_run(&mut self, input: &Input, run: &Summary, checked: &Checked) {
-        let of_rows = matches!(input.graph, Graph::Rows { .. });
+        let of_rows = is_of_rows(input);
         let above_zero = f64::from_bits(input.loss_rate) > 0.0;
         self.runs += 1;
         self.ended[run.ended as usize] += 1;
         self.of_rows += u64::from(of_rows);
-        self.lossy += u64::from(run.rx_success < run.rx_attempts);
+        self.lossy += u64::from(is_lossy(run));
         self.nacks += u64::from(run.nacks_sent > 0);
         self.piggybacks += u64::from(run.piggybacks_sent > 0);
         self.cut += u64::from(checked.cut);
@@ -80,6 +97,35 @@ impl Tally {
     pub fn all_the_same(&self) -> bool {
         self.differences == 0
     }
+}
+
+impl Previews {
+    fn add(&mut self, input: &Input, answer: &Answer, previewed: &Previewed) {
+        self.seconds += previewed.seconds;
+        match answer {
+            Answer::Refused(_) => self.of_refused += previewed.asked,
+            Answer::Ran(run) => self.add_run(input, run, previewed),
+            Answer::Panicked(_) => {}
+        }
+    }
+
+    fn add_run(&mut self, input: &Input, run: &Summary, previewed: &Previewed) {
+        self.of_runs += previewed.asked;
+        self.of_rows += u64::from(is_of_rows(input)) * previewed.asked;
+        self.ended[run.ended as usize] += previewed.asked;
+        self.lossy += u64::from(is_lossy(run)) * previewed.asked;
+        self.nacks += previewed.nacks;
+        self.piggybacks += previewed.piggybacks;
+        self.past_end += previewed.past_end;
+    }
+}
+
+fn is_of_rows(input: &Input) -> bool {
+    matches!(input.graph, Graph::Rows { .. })
+}
+
+fn is_lossy(run: &Summary) -> bool {
+    run.rx_success < run.rx_attempts
 }
 
 impl fmt::Display for Tally {
@@ -102,12 +148,30 @@ impl fmt::Display for Tally {
         writeln!(f, "runs that demand 3 fixes {}", self.exact)?;
         writeln!(f, "  of rows {}", self.exact_of_rows)?;
         writeln!(f, "  at a loss rate above 0 {}", self.exact_above_zero)?;
+        write!(f, "{}", self.previews)?;
         writeln!(f, "processor seconds of ctsim {:.0}", self.ctsim_seconds)?;
         writeln!(f, "  of the library {:.0}", self.library_seconds)?;
+        writeln!(f, "  of its previews {:.0}", self.previews.seconds)?;
         writeln!(f, "differences {}", self.differences)?;
         if let Some(first) = &self.first {
             writeln!(f, "first difference:\n  {}\n  {}", first.line, first.what)?;
         }
         Ok(())
+    }
+}
+
+impl fmt::Display for Previews {
+    fn fmt(&self, f: &mut fmt::Formatter) -> fmt::Result {
+        writeln!(f, "rounds previewed {}", self.of_runs + self.of_refused)?;
+        writeln!(f, "  of refused lines {}", self.of_refused)?;
+        writeln!(f, "  of runs {}", self.of_runs)?;
+        writeln!(f, "    of rows {}", self.of_rows)?;
+        for end in 1..=4 {
+            writeln!(f, "    with end {end} {}", self.ended[end])?;
+        }
+        writeln!(f, "    lossy {}", self.lossy)?;
+        writeln!(f, "    whose packet has a NACK {}", self.nacks)?;
+        writeln!(f, "    whose packet has a piggyback {}", self.piggybacks)?;
+        writeln!(f, "    refused by 13 {}", self.past_end)
     }
 }

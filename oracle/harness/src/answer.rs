@@ -1,6 +1,7 @@
 //! One run of ctsim for one input.
 
 use crate::input::{Graph, Input};
+use crate::round::{set, Round};
 use ctsim::config::{CiConfig, NetworkConfig, SimConfig};
 use ctsim::metrics::MetricsCollector;
 use ctsim::network::NetworkGraph;
@@ -21,7 +22,7 @@ pub enum Answer {
 #[derive(Debug, Clone, PartialEq, Eq)]
 pub struct Summary {
     pub nodes: usize,
-    pub rounds: usize,
+    pub rounds: Vec<Round>,
     pub slots: u64,
     pub ended: u8,
     pub listen: u64,
@@ -44,7 +45,6 @@ pub struct Summary {
     pub data: Vec<Vec<String>>,
     pub pending: Vec<Vec<Pending>>,
     pub last_accepted: Vec<Option<u64>>,
-    pub round_starts: Vec<u64>,
 }
 
 #[derive(Debug, Clone, PartialEq, Eq)]
@@ -79,8 +79,8 @@ pub fn run(input: &Input) -> Answer {
 }
 
 fn run_unasked(input: &Input) -> Answer {
-    match caught(|| wrapped(input)) {
-        Ok(finished) => Answer::Ran(Box::new(summary(finished))),
+    match caught(|| summary(wrapped(input))) {
+        Ok(summary) => Answer::Ran(Box::new(summary)),
         Err(message) => Answer::Panicked(message),
     }
 }
@@ -184,7 +184,7 @@ fn summary(finished: Finished) -> Summary {
     let [listen, flood, sleep] = slot_sums(&core.nodes);
     Summary {
         nodes: core.num_nodes(),
-        rounds: finished.round_starts.len(),
+        rounds: finished.rounds.iter().map(Round::of).collect(),
         slots: core.current_slot,
         ended: finished.ended,
         listen,
@@ -203,7 +203,6 @@ fn summary(finished: Finished) -> Summary {
         data: states.iter().map(data).collect(),
         pending: states.iter().map(pending).collect(),
         last_accepted: states.iter().map(|s| s.last_accepted).collect(),
-        round_starts: finished.round_starts,
     }
 }
 
@@ -228,13 +227,9 @@ fn snapshot(s: &ctsim::metrics::Snapshot) -> [u64; 5] {
 }
 
 fn pending(state: &NodePaxosState) -> Vec<Pending> {
-    let votes = |bitmap: &[bool]| {
-        let voted = bitmap.iter().enumerate().filter(|(_, vote)| **vote);
-        voted.fold(0, |set, (i, _)| set | 1 << i)
-    };
     let one = |p: &ctsim::protocol::paxos::PendingProposal| Pending {
         term: p.term,
-        votes: votes(&p.bitmap),
+        votes: set(&p.bitmap),
     };
     state.pending.iter().map(one).collect()
 }

@@ -1,8 +1,11 @@
 //! Inputs to compare on: a list of small ones, random ones around the limits of
-//! the questions, and broken ones.
+//! the questions, broken ones, and such lines with a round to preview.
+
+mod previews;
 
 use crate::answer::{run, Answer};
 use crate::input::{Graph, Input, GRID, TREE};
+pub use previews::previews;
 use rand::{RngCore, SeedableRng};
 use rand_chacha::ChaCha8Rng;
 
@@ -274,7 +277,8 @@ impl Source {
         let Answer::Ran(summary) = &answer else {
             return u64::MAX;
         };
-        let ends = [&summary.round_starts[1..], &[summary.slots]].concat();
+        let starts = summary.rounds.iter().map(|round| round.start);
+        let ends: Vec<u64> = starts.skip(1).chain([summary.slots]).collect();
         self.unlimited = Some((unlimited.clone(), answer));
         let end = self.pick(&ends);
         self.pick(&[end.saturating_sub(1), end, end + 1])

@@ -136,7 +136,7 @@ fn rows_fit(n: usize, rows: &[u32]) -> bool {
 }
 
 /// 1 to 20 digits, below 2^64.
-fn decimal(field: &str) -> Option<u64> {
+pub(crate) fn decimal(field: &str) -> Option<u64> {
     let digits = field.bytes().all(|b| b.is_ascii_digit());
     let length = (1..=20).contains(&field.len());
     if digits && length {

@@ -1,6 +1,8 @@
-//! The program's listing, and what can be printed after it.
+//! The program's listing, what can be printed after it, and the line of one round.
 
 use crate::answer::{Answer, Summary};
+use crate::preview::Preview;
+use crate::round::Round;
 use std::fmt;
 
 /// A listing has so many snapshots at most.
@@ -18,9 +20,9 @@ impl fmt::Display for Answer {
 
 impl fmt::Display for Summary {
     fn fmt(&self, f: &mut fmt::Formatter) -> fmt::Result {
+        let rounds = self.rounds.len();
         let Summary {
             nodes,
-            rounds,
             slots,
             ended,
             listen,
@@ -79,12 +81,28 @@ impl Summary {
         text
     }
 
-    /// The first slot of each round.
+    /// The first slot of each round, its packet and who took part.
     pub fn rounds(&self) -> String {
-        let starts = self.round_starts.iter().enumerate();
-        starts
-            .map(|(i, start)| format!("round {i} {start}\n"))
+        let rounds = self.rounds.iter().enumerate();
+        rounds
+            .map(|(i, round)| format!("round {i} {} {round}\n", round.start))
             .collect()
+    }
+}
+
+impl fmt::Display for Round {
+    fn fmt(&self, f: &mut fmt::Formatter) -> fmt::Result {
+        write!(f, "packet{} part {}", spaced(self.packet), self.part)
+    }
+}
+
+impl fmt::Display for Preview<'_> {
+    fn fmt(&self, f: &mut fmt::Formatter) -> fmt::Result {
+        match self {
+            Preview::Refused(number) => writeln!(f, "refused {number}"),
+            Preview::Seen(round) => writeln!(f, "{round}"),
+            Preview::Panicked => writeln!(f, "panic"),
+        }
     }
 }
 

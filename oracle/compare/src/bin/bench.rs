@@ -2,9 +2,9 @@
 
 use compare::arguments::seed_and_count;
 use compare::clock::processor_seconds;
-use compare::library::{self, Buffer, Buffers};
+use compare::library::{self, Buffer, Buffers, PreviewBuffers, PART_LENGTH};
 use compare::library::{LOGS_LENGTH, RECORDS_LENGTH, SNAPSHOT_LENGTH, SUMMARY_LENGTH};
-use oracle::{Answer, Input, Summary};
+use oracle::{Answer, Input, Summary, PACKET_LENGTH};
 use std::hint::black_box;
 use std::process::ExitCode;
 
@@ -12,7 +12,8 @@ const HELP: &str = "\
 usage: bench [SEED [COUNT]]
 
 Prints a table of the processor time that ctsim and the library take for a run,
-for six fixed runs, and the median ratio over COUNT random ones (100) of SEED (1).
+for six fixed runs, a table of the library's previews of their rounds, and the
+median ratio over COUNT random runs (100) of SEED (1).
 ";
 
 const RUNS: [(&str, &str); 6] = [
@@ -43,6 +44,7 @@ const RUNS: [(&str, &str); 6] = [
 ];
 
 /// How cost grows: with the nodes, with the rounds, with the loss.
+#[rustfmt::skip]
 const GROWTH: [(&str, &str); 15] = [
     ("line 31, lossless, P 0: one round", "2 31 0 1 - 0000000000000000 7 0 100 1000000"),
     ("line 2, lossless, P 16", "2 2 0 2 - 0000000000000000 7 16 100 1000000"),
@@ -110,6 +112,7 @@ fn print_fixed() {
     println!("draws: as many of the seed's draws as the run made attempts, by the library.");
     print_table(&RUNS);
     print_table(&GROWTH);
+    print_previews();
     println!();
     for (name, line) in RUNS.iter().chain(&GROWTH) {
         println!("{name}: {line}");
@@ -125,13 +128,29 @@ fn print_table(runs: &[(&str, &str)]) {
         let (run, times) = measure(&input, &FIXED);
         print!(
             "| {name} | {} | {} | {} ",
-            run.rounds, run.slots, run.rx_attempts
+            run.rounds.len(),
+            run.slots,
+            run.rx_attempts
         );
         let [ctsim, library, draws] = [times.ctsim, times.library, times.draws].map(|s| s * 1e3);
         println!(
             "| {ctsim:.3} | {library:.3} | {:.2} | {draws:.3} |",
             times.ratio()
         );
+    }
+}
+
+fn print_previews() {
+    println!("\nThe library's run, and its previews of three rounds of it, in microseconds.\n");
+    println!("| run | rounds | whole run | round 0 | middle round | last round |");
+    println!("|---|---|---|---|---|---|");
+    for (name, line) in &RUNS {
+        let input = Input::parse(line.as_bytes()).expect("readable");
+        let run = ran(&input);
+        let times = measure_previews(&input, &run, &FIXED);
+        let [whole, first, middle, last] = times.map(|s| s * 1e6);
+        print!("| {name} | {} ", run.rounds.len());
+        println!("| {whole:.1} | {first:.1} | {middle:.1} | {last:.1} |");
     }
 }
 
@@ -150,43 +169,75 @@ fn print_random(seed: u64, count: usize) {
     println!("greatest {greatest:.2}: {fastest}");
 }
 
-/// Medians over turns in which each of the three has its batch of calls.
+/// The run by ctsim and by the library, and its draws alone.
 fn measure(input: &Input, effort: &Effort) -> (Summary, Times) {
-    let Answer::Ran(run) = oracle::run(input) else {
-        panic!("not accepted: {input}");
-    };
-    let mut buffers = Buffers {
-        summary: Buffer::new(SUMMARY_LENGTH, 0),
-        logs: Buffer::new(LOGS_LENGTH, 0),
-        records: Buffer::new(RECORDS_LENGTH, 0),
-        snapshots: Buffer::new(SNAPSHOT_LENGTH * run.snapshots.len(), 0),
-    };
+    let run = ran(input);
     // At rate 0 no draw is taken.
     let lossless = f64::from_bits(input.loss_rate) == 0.0;
     let draws = if lossless { 0 } else { run.rx_attempts };
     let mut drawn = vec![0; draws as usize];
     let mut by_ctsim = || drop(black_box(oracle::reference(black_box(input))));
-    let mut by_library = || {
-        let result = library::run(black_box(input), 1, &mut buffers);
-        assert_eq!(result, 0, "refused: {input}");
-    };
+    let mut by_library = library_run(input, &run);
     let mut by_draws = || library::draws(black_box(input.seed), &mut drawn);
-    let mut sides = [
-        Side::new(&mut by_ctsim, effort),
-        Side::new(&mut by_library, effort),
-        Side::new(&mut by_draws, effort),
-    ];
-    for _ in 0..effort.turns {
-        sides.iter_mut().for_each(Side::turn);
-    }
-    let [ctsim, library, draws_alone] = sides.map(|side| median(side.seconds));
+    let [ctsim, library, draws_alone] =
+        medians([&mut by_ctsim, &mut by_library, &mut by_draws], effort);
     let draws = if lossless { 0.0 } else { draws_alone };
     let times = Times {
         ctsim,
         library,
         draws,
     };
-    (*run, times)
+    (run, times)
+}
+
+/// The whole run by the library, and its previews of the first, the middle and the last round.
+fn measure_previews(input: &Input, run: &Summary, effort: &Effort) -> [f64; 4] {
+    let last = run.rounds.len() as u64 - 1;
+    let mut whole = library_run(input, run);
+    let previews = [0, last / 2, last].map(|round| library_preview(input, round));
+    let [mut first, mut middle, mut last] = previews;
+    medians([&mut whole, &mut first, &mut middle, &mut last], effort)
+}
+
+fn ran(input: &Input) -> Summary {
+    match oracle::run(input) {
+        Answer::Ran(run) => *run,
+        _ => panic!("not accepted: {input}"),
+    }
+}
+
+/// Calls the entry, with buffers that all snapshots of the run fit in.
+fn library_run<'a>(input: &'a Input, run: &Summary) -> impl FnMut() + 'a {
+    let mut buffers = Buffers {
+        summary: Buffer::new(SUMMARY_LENGTH, 0),
+        logs: Buffer::new(LOGS_LENGTH, 0),
+        records: Buffer::new(RECORDS_LENGTH, 0),
+        snapshots: Buffer::new(SNAPSHOT_LENGTH * run.snapshots.len(), 0),
+    };
+    move || {
+        let result = library::run(black_box(input), 1, &mut buffers);
+        assert_eq!(result, 0, "refused: {input}");
+    }
+}
+
+fn library_preview(input: &Input, round: u64) -> impl FnMut() + '_ {
+    let mut buffers = PreviewBuffers {
+        packet: Buffer::new(PACKET_LENGTH, 0),
+        part: Buffer::new(PART_LENGTH, 0),
+    };
+    move || {
+        let result = library::preview(black_box(input), 1, round, &mut buffers);
+        assert_eq!(result, 0, "refused: {input}");
+    }
+}
+
+/// Medians over turns in which each has its batch of calls.
+fn medians<const N: usize>(calls: [&mut dyn FnMut(); N], effort: &Effort) -> [f64; N] {
+    let mut sides = calls.map(|call| Side::new(call, effort));
+    for _ in 0..effort.turns {
+        sides.iter_mut().for_each(Side::turn);
+    }
+    sides.map(|side| median(side.seconds))
 }
 
 struct Side<'a> {

@@ -14,8 +14,9 @@ const HELP: &str = "\
 usage: compare [SEED [COUNT]]
 
 Answers by ctsim and by the library, and compares: every line of `inputs small`,
-COUNT random ones (100000) and a tenth as many broken ones. SEED (1) is the first
-of the seeds that they are made from, another for each 500 of them.
+COUNT random ones (100000) and a tenth as many broken ones. A few rounds of each
+are previewed by the library and compared as well. SEED (1) is the first of the
+seeds that the lines are made from, another for each 500 of them.
 Status: 0 all are the same; 1 there is a difference; 2 wrong use.
 ";
 

@@ -1,6 +1,6 @@
 //! Answers lines: one given as an argument, or all of standard input.
 
-use oracle::{run, Answer, Input};
+use oracle::{run, Answer, Line};
 use std::io::{self, BufRead, BufWriter, Write};
 use std::process::ExitCode;
 
@@ -11,12 +11,17 @@ Answers LINE, or every line of standard input, with ctsim's listing, `refused N`
 or `panic`. A line is
   topology nodes second repeats round_slots|- loss seed P interval limit
   rows nodes SET,SET,..|- repeats round_slots|- loss seed P interval limit
-with loss as 16 and each SET as 8 lowercase hexadecimal digits.
+with loss as 16 and each SET as 8 lowercase hexadecimal digits. The line
+  round K LINE
+is answered with round K of LINE's run alone: `packet`, its 13 numbers, `part`
+and the set of the nodes that took part; or `refused N`, by 13 if the run ends
+before round K.
 
   --echo       print `input LINE` before each answer
   --full       after a listing: the count of all snapshots, the buffers' numbers,
                each log's data, each node's pending terms with their votes
-  --rounds     after a listing: `round INDEX FIRST_SLOT` for each round
+  --rounds     after a listing: `round INDEX FIRST_SLOT packet .. part SET` for each
+               round
   --reference  also run PaxosPipelineSim::run and compare its metrics and sums
 
 Status: 0 answered; 1 a line was unreadable, the Rust panicked or the reference
@@ -114,26 +119,34 @@ fn print_answer(
     if options.echo {
         writeln!(output, "input {}", String::from_utf8_lossy(line))?;
     }
-    let Some(input) = Input::parse(line) else {
+    let Some(Line { round, input }) = Line::parse(line) else {
         write!(output, "{}", Answer::Refused(12))?;
         return Ok(vec!["unreadable".into()]);
     };
     let answer = run(&input);
-    write!(output, "{answer}")?;
-    match &answer {
-        Answer::Refused(_) => {}
-        Answer::Panicked(message) => faults.push(format!("the Rust panicked: {message}")),
-        Answer::Ran(summary) => {
-            if options.full {
-                write!(output, "{}", summary.full())?;
-            }
-            if options.rounds {
-                write!(output, "{}", summary.rounds())?;
-            }
-        }
+    match round {
+        Some(round) => write!(output, "{}", answer.preview(round))?,
+        None => print_run(options, &answer, output)?,
+    }
+    if let Answer::Panicked(message) = &answer {
+        faults.push(format!("the Rust panicked: {message}"));
     }
     if options.reference {
         faults.extend(oracle::reference_difference(&input));
     }
     Ok(faults)
+}
+
+/// Prints the answer to a whole run, and what is to come after a listing.
+fn print_run(options: &Options, answer: &Answer, output: &mut impl Write) -> io::Result<()> {
+    write!(output, "{answer}")?;
+    if let Answer::Ran(summary) = answer {
+        if options.full {
+            write!(output, "{}", summary.full())?;
+        }
+        if options.rounds {
+            write!(output, "{}", summary.rounds())?;
+        }
+    }
+    Ok(())
 }

@@ -8,13 +8,16 @@ const HELP: &str = "\
 usage: inputs small
        inputs random SEED COUNT
        inputs broken SEED COUNT
+       inputs previews SEED COUNT
 
 Prints lines for `answer`.
-  small   every topology of 2 to 4 nodes and the rows of every labelled graph of
-          that size, with repeats 1 to 3, round slots absent and 0 to 4, P 0 to 3,
-          loss 0 and 0.5
-  random  COUNT accepted lines around the limits of the questions
-  broken  COUNT lines with values beyond a limit or unreadable, a few still accepted
+  small     every topology of 2 to 4 nodes and the rows of every labelled graph of
+            that size, with repeats 1 to 3, round slots absent and 0 to 4, P 0 to 3,
+            loss 0 and 0.5
+  random    COUNT accepted lines around the limits of the questions
+  broken    COUNT lines with values beyond a limit or unreadable, a few still accepted
+  previews  COUNT lines `round K LINE`, most of them accepted; K is the first round,
+            the last, beside it or between, or far beyond
 The same SEED gives the same lines.
 ";
 
@@ -47,6 +50,10 @@ fn print_lines(arguments: &[String]) -> Result<(), String> {
         ["broken", seed, count] => {
             let count = number("COUNT", count)? as usize;
             write_all(oracle::broken(number("SEED", seed)?).take(count))
+        }
+        ["previews", seed, count] => {
+            let count = number("COUNT", count)? as usize;
+            write_all(oracle::previews(number("SEED", seed)?).take(count))
         }
         _ => Err(format!("wrong arguments\n\n{HELP}")),
     }

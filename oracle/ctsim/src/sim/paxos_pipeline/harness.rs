@@ -1,5 +1,5 @@
-//! `PaxosPipelineSim::run` with a wrapper around `PaxosCi`, which copies `states`
-//! out at the end and sees each round begin and stop.
+//! `PaxosPipelineSim::run` with a wrapper around `PaxosCi`, which sees each round's
+//! packet and participants, sees it begin and stop, and copies `states` out at the end.
 
 use super::*;
 use crate::event::Slot;
@@ -8,9 +8,36 @@ use crate::event::Slot;
 pub struct Finished {
     pub core: CiPipelineCore,
     pub states: Vec<NodePaxosState>,
-    pub round_starts: Vec<Slot>,
+    pub rounds: Vec<SeenRound>,
     /// The end number of rule 6.9, 1 to 4.
     pub ended: u8,
+}
+
+/// A round after its flood, before `process_round`.
+pub struct SeenRound {
+    /// Its first slot.
+    pub start: Slot,
+    /// As it is read from the bytes that were flooded.
+    pub packet: PaxosPacket,
+    /// Whether each node took part.
+    pub took_part: Vec<bool>,
+}
+
+impl SeenRound {
+    /// Asks what `process_round` is going to ask: `participated`, and each participant's bytes.
+    fn of(start: Slot, core: &CiPipelineCore) -> Self {
+        let flooded = &core.nodes[core.initiator()].payload;
+        let nodes = 0..core.num_nodes();
+        let took_part: Vec<bool> = nodes.map(|i| core.participated(i)).collect();
+        let mut held = core.nodes.iter().zip(&took_part);
+        let same = held.all(|(node, took_part)| !took_part || node.payload == *flooded);
+        assert!(same, "a participant holds another packet than was flooded");
+        Self {
+            start,
+            packet: deserialize_packet(flooded).expect("the flooded packet is readable"),
+            took_part,
+        }
+    }
 }
 
 pub fn run(config: SimConfig, graph: NetworkGraph) -> Finished {
@@ -28,6 +55,7 @@ pub fn run(config: SimConfig, graph: NetworkGraph) -> Finished {
     let mut seen = Seen::default();
     let wrapper = Wrapper {
         proto,
+        round_start: 0,
         seen: &mut seen,
     };
     let core = run_ci_pipeline(wrapper, CiPipelineCore::new(config, graph));
@@ -37,7 +65,7 @@ pub fn run(config: SimConfig, graph: NetworkGraph) -> Finished {
     Finished {
         core,
         states: seen.states,
-        round_starts: seen.round_starts,
+        rounds: seen.rounds,
         ended,
     }
 }
@@ -45,12 +73,14 @@ pub fn run(config: SimConfig, graph: NetworkGraph) -> Finished {
 #[derive(Default)]
 struct Seen {
     states: Vec<NodePaxosState>,
-    round_starts: Vec<Slot>,
+    rounds: Vec<SeenRound>,
     ended: Option<u8>,
 }
 
 struct Wrapper<'a> {
     proto: PaxosCi,
+    /// The first slot of the present round.
+    round_start: Slot,
     seen: &'a mut Seen,
 }
 
@@ -87,11 +117,12 @@ impl CiProtocol for Wrapper<'_> {
     }
 
     fn prepare_round(&mut self, core: &mut CiPipelineCore) {
-        self.seen.round_starts.push(core.current_slot);
+        self.round_start = core.current_slot;
         self.proto.prepare_round(core);
     }
 
     fn process_round(&mut self, core: &mut CiPipelineCore) {
+        self.seen.rounds.push(SeenRound::of(self.round_start, core));
         self.proto.process_round(core);
         self.seen.ended = self.end(core);
         let stops = self.seen.ended.is_some();
