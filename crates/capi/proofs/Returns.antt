@@ -3,7 +3,7 @@
 use Prim.Native.Nat.{ℕ, _≤_, _<_}
 use mathlib.Core.Path.{_≡_, refl, sym, ap, _∙_}
 use mathlib.Core.Bool.{and-false}
-use mathlib.Core.List.{List, _++_}
+use mathlib.Core.List.{List}
 use lib.Ieee.{Float}
 use lib.ListN.{length}
 use borrow.Author.Tests.{le-leb, lt-leb}
@@ -18,8 +18,9 @@ use Rattle.rules.specs.Entries.{Outcome}
 use Rattle.rules.specs.Answers.{outcome}
 use Rattle.metrics.specs.Ratio.{ratioOf}
 use Rattle.preview.specs.declared.Preview.{Preview}
-use Rattle.capi.specs.Previews.{packetSize, previewResult, returnedPreview}
-use Rattle.capi.specs.Capi.{short, summarySize, builtResult, returnedRows, measuredResult, returnedDiameter, ratioResult, returnedRatio, summaryNumbers, summaryAt, returnedOf, resultOf, withSummary, returned, returnedOutcome, returnedRun}
+use Rattle.marshal.specs.Convert.{summarySize, ratioResult, summaryAt, resultOf, withSummary}
+use Rattle.marshal.specs.Previews.{packetSize, previewResult}
+use Rattle.capi.specs.Capi.{short, builtResult, returnedRows, measuredResult, returnedDiameter, returnedRatio, returnedOf, returned, returnedOutcome, returnedRun, returnedPreview}
 
 module _ (topology first second : ℕ) (out nodes : List ℕ) where
   pub rows-short : length nodes < 1 → _≡_ {A = ℕ × List ℕ × List ℕ} (short, out, nodes) (returnedRows topology first second out nodes)
@@ -77,10 +78,6 @@ module _ (o : Outcome) (summary logs records snapshots : List ℕ) where
       outcome a l r p ≡ o → returned k s l r p ≡ returnedRun o summary logs records snapshots
   unfolding returnedRun
   run-returned h k s a l r p written e = rw (le-leb _ _ h) (convert k s a l r p summary written ∙ ap (returnedOutcome summary) e)
-
--- a summary is read as it was written, whatever follows it
-pub summary-back : (s : Summary) (l : List ℕ) → summaryAt (summaryNumbers s ++ l) ≡ s
-summary-back s l = refl
 
 -- a look ahead
 module _ (answer : Preview) (packet part : List ℕ) where

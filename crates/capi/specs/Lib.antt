@@ -1,3 +1,2 @@
 -- What is right for the crate `capi`.
 pub mod Capi
-pub mod Previews

@@ -1,13 +1,12 @@
 // The entries for programs in C. Each takes numbers and slices alone, where a slice is a pointer and a length in C, and
 // returns 0 or the number of the refusal, which leaves every slice as it was. `include/ctsim.h` declares them.
-mod convert;
-mod previews;
-
-use convert::SUMMARY_SIZE;
-use convert::config_from;
-use convert::read_summary;
-use convert::write_answer;
-use convert::write_ratio;
+use marshal::convert::SUMMARY_SIZE;
+use marshal::convert::config_from;
+use marshal::convert::read_summary;
+use marshal::convert::write_answer;
+use marshal::convert::write_ratio;
+use marshal::previews::PACKET_SIZE;
+use marshal::previews::write_preview;
 use metrics::ratio::ratio;
 use metrics::ratios::flood_coverage;
 use metrics::ratios::link_pdr;
@@ -17,8 +16,6 @@ use network::topology::Built;
 use network::topology::rows;
 use preview::preview_rows;
 use preview::preview_topology;
-use previews::PACKET_SIZE;
-use previews::write_preview;
 use random::draws::draws;
 use sim::entries::run_rows;
 use sim::entries::run_topology;
@@ -31,8 +28,8 @@ ghost use Rattle.preview.specs.Preview.{previewFor};
 ghost use Rattle.rules.specs.Networks.{ofRows, ofTopology};
 ghost use Rattle.random.specs.Draws.{draw};
 ghost use Rattle.random.specs.Table.{tabulate};
-ghost use Rattle.capi.specs.Capi.{returnedRows, returnedDiameter, returnedRatio, linkPdr, floodCoverage, returnedOf, configFrom, returned, returnedRunOfTopology, returnedRunOfRows};
-ghost use Rattle.capi.specs.Previews.{returnedPreview};
+ghost use Rattle.capi.specs.Capi.{returnedRows, returnedDiameter, returnedRatio, linkPdr, floodCoverage, returnedOf, returned, returnedRunOfTopology, returnedRunOfRows, returnedPreview};
+ghost use Rattle.marshal.specs.Convert.{configFrom};
 
 // What only these entries return: a slice for results is too short.
 const SHORT: u64 = 100;

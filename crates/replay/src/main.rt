@@ -1,8 +1,10 @@
 // Answers every line of its input as the Rust source does. The first 71 lines put each question
 // on both sides of its boundary; the next 664 were chosen among those of `oracle/`'s program
 // `inputs` (small, random and broken), so that each end, lossy runs, NACKs, piggybacks, graphs given
-// by rows and refusals are among them; the last three are at edges that those miss. `stdout` is what
-// `oracle/`'s program `answer` prints for `stdin`.
+// by rows and refusals are among them; three are at edges that those miss; the rest ask for one round,
+// chosen likewise. `stdout` is what `oracle/`'s program `answer` prints for `stdin`.
+mod rounds_shown;
+
 use config::limits::LISTED_SIZE;
 use config::limits::LOG_SIZE;
 use config::limits::MAX_NODES;
@@ -22,6 +24,8 @@ use line::read::until;
 use listing::write::LISTING_SIZE;
 use listing::write::write_listing;
 use listing::write::write_refusal;
+use rounds_shown::show_round_of_rows;
+use rounds_shown::show_round_of_topology;
 use rules::answer::Answer;
 use sim::entries::run_rows;
 ghost use Prim.Native.Nat.{_≤_};
@@ -112,8 +116,27 @@ fn run_sets(rows: &[u32], nodes: u64, line: Line, out: &mut [u8]) -> usize
     }
 }
 
+// What a line asks for: the run, or one round of it.
+enum Wanted {
+    Run,
+    Round(u64),
+}
+
+// Answers for the rows. A round is printed at once, and leaves nothing in the buffer.
+fn answer_sets(rows: &[u32], nodes: u64, line: Line, wanted: Wanted, out: &mut [u8]) -> usize
+    ensures { λ r. ⌜ r ≤ listingMost ⌝ }
+{
+    match wanted {
+        Wanted::Run => run_sets(rows, nodes, line, out),
+        Wanted::Round(k) => {
+            show_round_of_rows(rows, nodes, config_of(line), k);
+            0
+        }
+    }
+}
+
 // The answer to a line `rows nodes SETS`, followed by the configuration.
-fn answer_rows(line: &[u8], out: &mut [u8]) -> usize
+fn answer_rows(line: &[u8], wanted: Wanted, out: &mut [u8]) -> usize
     ensures { λ r. ⌜ r ≤ listingMost ⌝ }
 {
     let Number::Of(nodes) = decimal(field(line, 1)) else {
@@ -124,26 +147,49 @@ fn answer_rows(line: &[u8], out: &mut [u8]) -> usize
     let count = smaller((text.len() + 1) / 9, SETS);
     let at = field_start(line, 3);
     match read_config(&line[at..]) {
-        Read::Line(l) => run_sets(&rows[..count], nodes, l, out),
+        Read::Line(l) => answer_sets(&rows[..count], nodes, l, wanted, out),
         Read::Unreadable => write_refusal(12, out),
     }
 }
 
-// Whether a line is one of rows.
-fn is_rows(line: &[u8]) -> bool {
-    if line.len() == 0 {
-        return false;
+// The answer to the program's line.
+fn answer_topology(line: &[u8], wanted: Wanted, out: &mut [u8]) -> usize
+    ensures { λ r. ⌜ r ≤ listingMost ⌝ }
+{
+    match wanted {
+        Wanted::Run => program::answer(line, out),
+        Wanted::Round(k) => match read_line(line) {
+            Read::Unreadable => write_refusal(12, out),
+            Read::Line(l) => {
+                show_round_of_topology(l, k);
+                0
+            }
+        },
     }
-    line[0] == b'r'
 }
 
+// The answer to a line of rows, or to the program's.
+fn answer_wanted(line: &[u8], wanted: Wanted, out: &mut [u8]) -> usize
+    ensures { λ r. ⌜ r ≤ listingMost ⌝ }
+{
+    if byte_at(line, 0) == b'r' {
+        return answer_rows(line, wanted, out);
+    }
+    answer_topology(line, wanted, out)
+}
+
+// The answer to a line, or to one behind `round K`.
 fn answer(line: &[u8], out: &mut [u8]) -> usize
     ensures { λ r. ⌜ r ≤ listingMost ⌝ }
 {
-    if is_rows(line) {
-        return answer_rows(line, out);
+    if byte_at(line, 2) != b'u' {
+        return answer_wanted(line, Wanted::Run, out);
     }
-    program::answer(line, out)
+    let Number::Of(k) = decimal(field(line, 1)) else {
+        return write_refusal(12, out);
+    };
+    let at = field_start(line, 2);
+    answer_wanted(&line[at..], Wanted::Round(k), out)
 }
 
 // Answers one line after another.
