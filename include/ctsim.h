@@ -1,10 +1,11 @@
 /*
  * ctsim: radios that flood one packet by constructive interference and agree on a log of proposals
- * by a pipelined Paxos. Eight entries: draws, rows, diameter, three ratios, and two runs.
+ * by a pipelined Paxos. Ten entries: draws, rows, diameter, three ratios, two runs, and two previews
+ * of one round.
  *
  * Build the library with `rt staticlib capi` and link target/staticlib/libcapi.a. It is for x86-64
- * Linux. It keeps nothing between calls, so that threads may call it at the same time. A run takes
- * about 60,000 bytes of the caller's stack.
+ * Linux. It keeps nothing between calls, so that threads may call it at the same time. A run or a
+ * preview takes about 60,000 bytes of the caller's stack.
  *
  * Results. Every entry returns 0 if it is done, else a number of `enum ctsim_result`. Where it
  * returns another number than 0, it has written nothing.
@@ -13,12 +14,17 @@
  * there are no places, and the slices that an entry writes to overlap no other slice of the call.
  * Slices may be longer than needed. Every place that an entry has no number for keeps what it held.
  *
- * Words. A node is a radio, numbered from 0. A slot is the unit of time: in each slot every node
- * listens, floods (sends the round's packet) or sleeps. A round is one flood of one packet; node
- * (round modulo nodes) starts it. A proposal is a piece of data to agree on; its term is its number,
- * from 0. A node's log is its committed terms in the order in which they entered it: a term enters
- * at the first commit that reaches it while the node holds its data, so a log need not be in order of
- * the terms. docs/NUMBERS.md says more, and docs/RULES.md has the rules whole.
+ * Words. A node is a radio, numbered from 0. A set of nodes is a number: bit j stands for node j. A
+ * slot is the unit of time: in each slot every node listens, floods (sends the round's packet) or
+ * sleeps. A round is one flood of one packet. Rounds are numbered from 0, and node (round modulo
+ * nodes) starts each. The node that starts a round takes part in it, and so does every node that
+ * sleeps at its end. A proposal is a piece of data to agree on; its term is its number, from 0. A
+ * node's log is its committed terms in the order in which they entered it: a term enters at the first
+ * commit that reaches it while the node holds its data, so a log need not be in order of the terms. A
+ * packet is about one term, its current term. Its flags are the set of nodes whose votes for that
+ * term it tells. A NACK asks for a term that the packet's sender misses. A piggyback answers the NACK
+ * of the round before: it is that term, with its data. docs/NUMBERS.md says more, and docs/RULES.md
+ * has the rules whole.
  */
 #ifndef CTSIM_H
 #define CTSIM_H
@@ -30,8 +36,9 @@
 extern "C" {
 #endif
 
-/* What an entry returns. 1 to 11 are the questions, asked in this order; the first "no" is told.
- * 100 and above are of these entries alone; 100 is asked before the questions. */
+/* What an entry returns. 1 to 11 and 13 are the questions, asked in this order; the first "no" is
+ * told. 12 is of the program alone. 100 and above are of these entries alone; 100 is asked before the
+ * questions. */
 enum ctsim_result {
     CTSIM_DONE = 0,
     CTSIM_REFUSED_TOPOLOGY = 1,    /* the topology is not 1 to 6 */
@@ -45,7 +52,8 @@ enum ctsim_result {
     CTSIM_REFUSED_INTERVAL = 9,    /* the snapshot interval is 0 */
     CTSIM_REFUSED_BUFFERS = 10,    /* logs, records or, for ctsim_rows, rows are too short */
     CTSIM_REFUSED_RATIO = 11,      /* a count of the ratio is above 2^53 */
-    CTSIM_SHORT = 100,             /* a slice for a summary or for a single result is too short */
+    CTSIM_REFUSED_ROUND = 13,      /* the run ends before that round: it has at most `round` rounds */
+    CTSIM_SHORT = 100,             /* a slice for a summary, a packet or a single result is too short */
     CTSIM_NO_RATIO = 101           /* no refusal: there is no ratio, as the second count is 0 */
 };
 
@@ -63,7 +71,8 @@ enum ctsim_length {
     CTSIM_MAX_NODES = 32,
     CTSIM_SUMMARY_LENGTH = 16,
     CTSIM_LOGS_LENGTH = 2080,
-    CTSIM_RECORDS_LENGTH = 192
+    CTSIM_RECORDS_LENGTH = 192,
+    CTSIM_PACKET_LENGTH = 13
 };
 
 /* The places of a summary. */
@@ -88,6 +97,24 @@ enum ctsim_summary {
     CTSIM_SNAPSHOTS = 15    /* snapshots that were taken, whether they fitted or not */
 };
 
+/* The places of a packet. "Whether" is 1 for yes and 0 for no; a term that is not there is 0. */
+enum ctsim_packet {
+    CTSIM_PACKET_SENDER = 0,                /* the node that starts the round */
+    CTSIM_PACKET_TERM = 1,                  /* the current term: the one that the round proposes, else
+                                               the last that was proposed, 0 if none was */
+    CTSIM_PACKET_FLAGS = 2,                 /* the flags; the sender is always among them */
+    CTSIM_PACKET_NACK_GIVEN = 3,            /* whether there is a NACK */
+    CTSIM_PACKET_NACK = 4,                  /* its term, above 0 */
+    CTSIM_PACKET_LAST_ACCEPTED_GIVEN = 5,   /* whether the sender has committed a term */
+    CTSIM_PACKET_LAST_ACCEPTED = 6,         /* the greatest of these terms */
+    CTSIM_PACKET_DATA_GIVEN = 7,            /* whether there are proposal data */
+    CTSIM_PACKET_DATA = 8,                  /* their term, which is the current one */
+    CTSIM_PACKET_PIGGYBACK_GIVEN = 9,       /* whether there is a piggyback */
+    CTSIM_PACKET_PIGGYBACK = 10,            /* its term */
+    CTSIM_PACKET_PIGGYBACK_DATA_GIVEN = 11, /* whether it has data; in a run it always has */
+    CTSIM_PACKET_PIGGYBACK_DATA = 12        /* their term, which is the piggyback's */
+};
+
 /*
  * Writes draws 0, 1, 2 .. of a seed to all places of `out`. Draw k is made of words 2k (low) and
  * 2k + 1 (high) of the seed's ChaCha key stream with eight rounds. Returns 0, always.
@@ -96,7 +123,7 @@ uint64_t ctsim_draws(uint64_t seed, uint64_t *out, size_t out_length);
 
 /*
  * Writes the rows of a topology to the first places of `rows`, and the number of nodes to nodes[0].
- * Row i is the set of node i's neighbours: bit j stands for node j.
+ * Row i is the set of node i's neighbours.
  *   topology  a number of `enum ctsim_topology`
  *   first     the number of nodes; for a grid its rows
  *   second    0; for a grid its columns, for a tree its branching
@@ -182,6 +209,36 @@ uint64_t ctsim_run_rows(const uint32_t *rows, size_t rows_length, uint64_t n,
                         uint8_t *logs, size_t logs_length,
                         uint64_t *records, size_t records_length,
                         uint64_t *snapshots, size_t snapshots_length);
+
+/*
+ * Looks ahead to one round of a run of a topology: writes its packet and who takes part, as in the
+ * run itself. It takes the time of the rounds up to that one.
+ *   topology to limit  as for ctsim_run_topology; interval is tested, though no snapshot is written
+ *   round              the round; any number
+ *   packet             at least 13 places: the numbers of `enum ctsim_packet`
+ *   part               at least 1 place: part[0] is the set of nodes that take part
+ * Returns 0, 1, 2, 3, 5 to 9, 13, or 100.
+ */
+uint64_t ctsim_preview_topology(uint64_t topology, uint64_t first, uint64_t second,
+                                uint64_t repeats, uint64_t round_slots_given, uint64_t round_slots,
+                                double loss, uint64_t seed,
+                                uint64_t proposals, uint64_t interval, uint64_t limit,
+                                uint64_t round,
+                                uint64_t *packet, size_t packet_length,
+                                uint64_t *part, size_t part_length);
+
+/*
+ * Looks ahead to one round of a run of n nodes with these rows. Rows are as for ctsim_diameter, all
+ * else as for ctsim_preview_topology.
+ * Returns 0, 2, 4 to 9, 13, or 100.
+ */
+uint64_t ctsim_preview_rows(const uint32_t *rows, size_t rows_length, uint64_t n,
+                            uint64_t repeats, uint64_t round_slots_given, uint64_t round_slots,
+                            double loss, uint64_t seed,
+                            uint64_t proposals, uint64_t interval, uint64_t limit,
+                            uint64_t round,
+                            uint64_t *packet, size_t packet_length,
+                            uint64_t *part, size_t part_length);
 
 #ifdef __cplusplus
 }

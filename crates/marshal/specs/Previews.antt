@@ -1,4 +1,4 @@
--- A packet as numbers, and the result of a look ahead.
+-- A packet as numbers, and the result of a look ahead (rules 7.7 and 9.4).
 use Prim.Native.Nat.{ℕ}
 use mathlib.Core.List.{List, [], _∷_, _++_}
 use mathlib.Core.Option.{Option, none, some}

@@ -1,4 +1,4 @@
--- A look ahead to one round of a run (rules 13.1 to 13.3).
+-- A look ahead to one round of a run (rules 6.11, 9.3 and 12.6).
 use Prim.Native.Nat.{ℕ, _<_, _≤_}
 use mathlib.Core.List.{List}
 use mathlib.Core.Option.{Option, none, some}

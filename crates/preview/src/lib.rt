@@ -42,14 +42,15 @@ fn preview_over(graph: &[u64; MAX_NODES], plan: Plan, k: u64, states: &mut [u64]
     requires { ⌜ Accepted (planned (now graph) plan) × (k < mostRounds (plan .config .«num_proposals»)) × (now states ≡ replicate (tableSize (plan .nodes)) 0) ⌝ }
     ensures { λ r. ⌜ r ≡ previewIn (planned (now (graph .entry)) plan) k ⌝ }
 {
+    let most = k + 1;
     let mut history = [0u64; HISTORY_SIZE];
     let mut snapshots = [0u64; 0];
-    let stopped = play(graph, plan, k + 1, states, &mut history, &mut snapshots);
+    let stopped = play(graph, plan, most, states, &mut history, &mut snapshots);
     let last = stopped.last;
     match last {
         LastRound::None => Preview::Refused(NO_SUCH_ROUND),
         LastRound::Of(view) => {
-            if stopped.rounds <= k {
+            if stopped.rounds < most {
                 return Preview::Refused(NO_SUCH_ROUND);
             }
             Preview::Round(view)
