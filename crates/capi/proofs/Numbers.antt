@@ -8,7 +8,7 @@ use mathlib.Core.List.{List, [], _∷_, _++_}
 use mathlib.Core.Option.{Option, none, some}
 use native.Mathlib.Omega.{arith}
 use lib.Dec.{eqb, leb}
-use lib.ListN.{length}
+use lib.ListN.{length, getElem?}
 use Rattle.network.specs.Questions.{within, firstNo, nodesOf, rowsQuestions, topologyQuestions}
 use Rattle.network.specs.Topology.{topologyOf, answered, builtRows, builderRefusal}
 use Rattle.network.specs.Distance.{measured, measuredAs}
@@ -19,10 +19,13 @@ use Rattle.config.specs.declared.Config.{Config}
 use Rattle.rules.specs.declared.answer.Answer.{Answer}
 use Rattle.metrics.specs.declared.ratios.Ratio.{Ratio}
 use Rattle.rules.specs.Networks.{RowsOrTopology, ofRows, ofTopology, networkQuestions}
-use Rattle.rules.specs.Questions.{runQuestions, runRefusalFor}
-use Rattle.rules.specs.Entries.{outcomeFor}
+use Rattle.rules.specs.Questions.{configQuestions, runQuestions, refusalFor, runRefusalFor}
+use Rattle.rules.specs.Run.{Past, run}
+use Rattle.rules.specs.Entries.{givenFor, outcomeFor}
 use Rattle.rules.proofs.Admitted.{refused-so}
 use Rattle.metrics.specs.Ratio.{ratioOf, question11, quotient}
+use Rattle.preview.specs.declared.Preview.{Preview}
+use Rattle.preview.specs.Preview.{previewAs, previewIn, previewUnless, previewFor}
 
 -- the questions' numbers are above 0 and below 100
 abbrev numbered : List (Bool × ℕ) → Bool
@@ -46,6 +49,22 @@ run-numbered q c logs records snapshots k e = first-numbered (networkQuestions q
     asked : (q : RowsOrTopology) → numbered (networkQuestions q ++ runQuestions c (length logs) (length records)) ≡ true
     asked (ofRows rows n) = refl
     asked (ofTopology topology first second) = refl
+
+pub preview-numbered : (q : RowsOrTopology) (c : Config) (k j : ℕ) → previewFor q c k ≡ Preview.Refused j → within 1 99 j ≡ true
+unfolding previewFor previewIn refusalFor
+preview-numbered q c k j e = go (refusalFor q c) (first-numbered (networkQuestions q ++ configQuestions c) j (asked q)) e
+  where
+    asked : (q : RowsOrTopology) → numbered (networkQuestions q ++ configQuestions c) ≡ true
+    asked (ofRows rows n) = refl
+    asked (ofTopology topology first second) = refl
+
+    of-round : (o : Option Past) → previewAs o ≡ Preview.Refused j → within 1 99 j ≡ true
+    of-round none p = let g : _≡_ {A = ℕ} 13 j = cc in subst (λ (x : ℕ). within 1 99 x ≡ true) g refl
+    of-round (some x) p = let z : _≡_ {A = ℕ} 0 1 = cc in absurd (omega arith)
+
+    go : (o : Option ℕ) → (o ≡ some j → within 1 99 j ≡ true) → previewUnless o (givenFor q c) k ≡ Preview.Refused j → within 1 99 j ≡ true
+    go none refused p = of-round (getElem? (run (givenFor q c) .running .rounds) k) p
+    go (some i) refused p = refused cc
 
 pub rows-numbered : (topology first second : ℕ) (out : List ℕ) (k : ℕ) → builtRows topology first second out .0 ≡ Built.Refused k → within 1 99 k ≡ true
 rows-numbered topology first second out k e = first-numbered (topologyQuestions topology first second ++ (leb (nodesOf topology first second) (length out), 10) ∷ []) k refl (go (builderRefusal topology first second (length out)) e)

@@ -1,5 +1,6 @@
--- What each entry for C returns, and the final contents of the lent slices (rules 7.5, 7.6 and 9.4). The result is 0 or the refusal's
--- number; a refusal leaves every slice as it was. `short` is these entries' own and asked first: has each slice for results, and for a summary, its places?
+-- What each entry for C returns, and the final contents of the lent slices (rules 7.5 to 7.7 and 9.4). The result is 0 or the refusal's
+-- number; a refusal leaves every slice as it was. `short` is these entries' own and asked first: has each slice for results, and for a
+-- summary, its places?
 use Prim.Native.Nat.{ℕ}
 use mathlib.Core.Bool.{cond, _&&_}
 use mathlib.Core.List.{List, [], _∷_}

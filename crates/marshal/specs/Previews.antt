@@ -59,5 +59,5 @@ packetNumbers p =
 
 -- the result, the packet's slice and that of the set
 abbrev pub previewResult : Preview → List ℕ → List ℕ → ℕ × List ℕ × List ℕ
-previewResult (Preview.Round v) packet part = (0, sets packet 0 (packetNumbers (v .packet)), sets part 0 (v .part ∷ []))
+previewResult (Preview.Seen v) packet part = (0, sets packet 0 (packetNumbers (v .packet)), sets part 0 (v .part ∷ []))
 previewResult (Preview.Refused k) packet part = (k, packet, part)

@@ -90,8 +90,8 @@ fn put_packet(p: Packet, out: &mut [u64])
     let proposal_data = p.proposal_data;
     let data = of_data(proposal_data);
     let piggyback = p.piggyback;
-    let again = of_piggyback(piggyback);
-    let again_data = of_data(piggyback_data(piggyback));
+    let piggyback_term = of_piggyback(piggyback);
+    let piggyback_data_term = of_data(piggyback_data(piggyback));
     out[0] = p.sender.0 as u64;
     out[1] = p.current_term.0;
     out[2] = p.flags_bitmap;
@@ -101,10 +101,10 @@ fn put_packet(p: Packet, out: &mut [u64])
     out[6] = last.term;
     out[7] = data.given;
     out[8] = data.term;
-    out[9] = again.given;
-    out[10] = again.term;
-    out[11] = again_data.given;
-    out[12] = again_data.term;
+    out[9] = piggyback_term.given;
+    out[10] = piggyback_term.term;
+    out[11] = piggyback_data_term.given;
+    out[12] = piggyback_data_term.term;
 }
 
 // The result of a look ahead; the packet and the set of nodes are written if there is one.
@@ -116,10 +116,10 @@ pub fn write_preview(answer: Preview, packet: &mut [u64], part: &mut [u64]) -> u
 {
     match answer {
         Preview::Refused(k) => k,
-        Preview::Round(view) => {
-            let flooded = view.packet;
-            put_packet(flooded, packet);
-            part[0] = view.part;
+        Preview::Seen(seen) => {
+            let sent = seen.packet;
+            put_packet(sent, packet);
+            part[0] = seen.part;
             0
         }
     }

@@ -1,7 +1,7 @@
 -- Round k of a run, from the rounds that were played; and every run seen ahead. Assumes nothing.
 use Prim.Native.Nat.{ℕ, zero, suc, _+_, _≤_, _<_}
-use mathlib.Core.Path.{_≡_, refl, sym, ap, ap₂, _∙_}
-use mathlib.Core.List.{List, [], _∷_, _++_}
+use mathlib.Core.Path.{_≡_, refl, sym, ap, _∙_}
+use mathlib.Core.List.{List, [], _∷_}
 use mathlib.Core.Logic.{⊎-elim}
 use mathlib.Core.Option.{Option, none, some}
 use native.Mathlib.Omega.{arith}
@@ -9,21 +9,19 @@ use lib.ListN.{length, getElem?}
 use Rattle.config.specs.Limits.{mostRounds}
 use Rattle.config.specs.declared.Config.{Config}
 use Rattle.metrics.specs.declared.summary.Summary.{Summary}
-use Rattle.network.specs.Questions.{firstNo}
-use Rattle.network.proofs.Within.{first-no, all-yes}
-use Rattle.rules.specs.declared.answer.RoundView.{RoundView}
+use Rattle.rules.specs.declared.answer.SeenRound.{SeenRound}
 use Rattle.rules.specs.Networks.{RowsOrTopology, networkQuestions}
 use Rattle.rules.specs.Questions.{configQuestions, bufferQuestions, runQuestions, refusalFor, runRefusalFor}
 use Rattle.rules.specs.Run.{Given, Past, runFor, run}
 use Rattle.rules.specs.Entries.{givenFor, outcomeFor}
-use Rattle.rules.specs.Answers.{roundView}
+use Rattle.rules.specs.Answers.{seenRound}
 use Rattle.rules.proofs.Admitted.{admitted, refused-so}
 use Rattle.rules.proofs.FirstNo.{either-no, buffer-no}
 use Rattle.rules.proofs.FirstRounds.{elem-beyond, elem-within, first-rounds, few-rounds, made-of}
-use Rattle.rules.proofs.Found.{Found}
+use Rattle.rules.proofs.Found.{network-no, network-yes}
 use Rattle.rounds.specs.declared.run.LastRound.the-variants.{None, Of}
 use Rattle.rounds.specs.Going.{lastRound}
-use Rattle.preview.specs.declared.Preview.the-variants.{Round, Refused}
+use Rattle.preview.specs.declared.Preview.the-variants.{Seen, Refused}
 use Rattle.preview.specs.Preview.{noSuchRound, previewAs, previewIn, previewUnless, previewFor, RunsSeenAhead, RefusalsSeenAhead}
 
 -- ---- the last of the rounds that were played
@@ -35,12 +33,12 @@ none-played (p ∷ []) e = absurd (let z : _≡_ {A = ℕ} 0 1 = cc in omega ari
 none-played (p ∷ q ∷ rounds) e = absurd (let z = none-played (q ∷ rounds) e in omega (arith, z))
 
 -- the last of k + 1 is round k
-last-at : (rounds : List Past) (k : ℕ) (view : RoundView) → length rounds ≡ suc k → lastRound rounds ≡ Of view → previewAs (getElem? rounds k) ≡ Round view
-last-at [] k view e l = absurd (omega (arith, e))
-last-at (p ∷ []) zero view e l = let v : roundView p ≡ view = cc in ap Round v
-last-at (p ∷ []) (suc k) view e l = absurd (let z : _≡_ {A = ℕ} 1 (suc (suc k)) = e in omega (arith, z))
-last-at (p ∷ q ∷ rounds) zero view e l = absurd (omega (arith, e))
-last-at (p ∷ q ∷ rounds) (suc k) view e l = last-at (q ∷ rounds) k view (omega (arith, e)) l
+last-at : (rounds : List Past) (k : ℕ) (seen : SeenRound) → length rounds ≡ suc k → lastRound rounds ≡ Of seen → previewAs (getElem? rounds k) ≡ Seen seen
+last-at [] k seen e l = absurd (omega (arith, e))
+last-at (p ∷ []) zero seen e l = let v : seenRound p ≡ seen = cc in ap Seen v
+last-at (p ∷ []) (suc k) seen e l = absurd (let z : _≡_ {A = ℕ} 1 (suc (suc k)) = e in omega (arith, z))
+last-at (p ∷ q ∷ rounds) zero seen e l = absurd (omega (arith, e))
+last-at (p ∷ q ∷ rounds) (suc k) seen e l = last-at (q ∷ rounds) k seen (omega (arith, e)) l
 
 -- Round k, from a run of at most k + 1 rounds.
 module _ (g : Given) (k : ℕ) (early : k < mostRounds (g .proposals)) where
@@ -56,44 +54,29 @@ module _ (g : Given) (k : ℕ) (early : k < mostRounds (g .proposals)) where
   none-at-all e = too-few (omega (arith, none-played (runFor g (k + 1) .running .rounds) (sym e)))
 
   -- round k was its last
-  pub is-last : (view : RoundView) → Of view ≡ lastRound (runFor g (k + 1) .running .rounds) → k < length (runFor g (k + 1) .running .rounds)
-      → Round view ≡ previewIn g k
-  is-last view e h =
+  pub is-last : (seen : SeenRound) → Of seen ≡ lastRound (runFor g (k + 1) .running .rounds) → k < length (runFor g (k + 1) .running .rounds)
+      → Seen seen ≡ previewIn g k
+  is-last seen e h =
       let rounds = runFor g (k + 1) .running .rounds in
-      sym (from-played ∙ last-at rounds k view (omega (arith, h, few-rounds g (k + 1))) (sym e))
+      sym (from-played ∙ last-at rounds k seen (omega (arith, h, few-rounds g (k + 1))) (sym e))
 
 -- no run has so many rounds
 pub too-late : (g : Given) (k : ℕ) → mostRounds (g .proposals) ≤ k → Refused noSuchRound ≡ previewIn g k
 unfolding previewIn
 too-late g k h = sym (ap previewAs (elem-beyond (run g .running .rounds) k (omega (arith, h, few-rounds g (mostRounds (g .proposals))))))
 
--- ---- from what asking for the network answered
+-- ---- refused or not
 
 module _ (q : RowsOrTopology) (c : Config) (k : ℕ) where
-  -- the questions of its network refuse it
-  pub network-no : (question : ℕ) → firstNo (networkQuestions q) ≡ some question → Refused question ≡ previewFor q c k
-  unfolding previewFor refusalFor
-  network-no question e = ap (λ (o : Option ℕ). previewUnless o (givenFor q c) k) (sym (first-no (networkQuestions q) (configQuestions c) question e))
+  pub refused : (question : ℕ) → refusalFor q c ≡ some question → Refused question ≡ previewFor q c k
+  unfolding previewFor
+  refused question e = ap (λ (o : Option ℕ). previewUnless o (givenFor q c) k) (sym e)
 
-  module _ {graph : List ℕ} {n d : ℕ} (f : Found q graph n d) where
-    -- they let it pass, and the configuration's own refuse it
-    pub config-no : (question : ℕ) → firstNo (configQuestions c) ≡ some question → Refused question ≡ previewFor q c k
-    unfolding previewFor refusalFor
-    config-no question e =
-        ap (λ (o : Option ℕ). previewUnless o (givenFor q c) k) (sym (all-yes (networkQuestions q) (configQuestions c) (f .passes) ∙ e))
-
-    -- these pass too
-    pub all-pass : {g : Given} → g ≡ givenFor q c → firstNo (configQuestions c) ≡ none → previewIn g k ≡ previewFor q c k
-    unfolding previewFor refusalFor
-    all-pass e p =
-        ap₂ (λ (o : Option ℕ) (x : Given). previewUnless o x k) (sym (all-yes (networkQuestions q) (configQuestions c) (f .passes) ∙ p)) e
+  pub unrefused : refusalFor q c ≡ none → previewIn (givenFor q c) k ≡ previewFor q c k
+  unfolding previewFor
+  unrefused e = ap (λ (o : Option ℕ). previewUnless o (givenFor q c) k) (sym e)
 
 -- ---- every run
-
--- where no question refuses it
-unrefused : (q : RowsOrTopology) (c : Config) (k : ℕ) → refusalFor q c ≡ none → previewFor q c k ≡ previewIn (givenFor q c) k
-unfolding previewFor
-unrefused q c k e = ap (λ (o : Option ℕ). previewUnless o (givenFor q c) k) e
 
 pub runs-seen-ahead : RunsSeenAhead
 unfolding previewIn
@@ -102,22 +85,23 @@ runs-seen-ahead q c logs records snapshots s e =
     let g : Given = givenFor q c in
     let rounds = run g .running .rounds in
     let count : length rounds ≡ s .rounds = ap (λ (x : Summary). x .rounds) (a .summary) in
-    let each : (k : ℕ) (p : Past) → getElem? rounds k ≡ some p → previewFor q c k ≡ Round (roundView p) = λ k p h. unrefused q c k (a .passes) ∙ ap previewAs h in
+    let each : (k : ℕ) (p : Past) → getElem? rounds k ≡ some p → previewFor q c k ≡ Seen (seenRound p) = λ k p h. sym (unrefused q c k (a .passes)) ∙ ap previewAs h in
     record {
       each = each;
       made = λ k h.
           let w = elem-within rounds k (omega (arith, h, count)) in
-          each k (w .0) (w .1) ∙ ap (λ (p : Past). Round (roundView p)) (made-of g (mostRounds (g .proposals)) k (w .0) (w .1));
-      beyond = λ k h. unrefused q c k (a .passes) ∙ ap previewAs (elem-beyond rounds k (omega (arith, h, count)));
+          each k (w .0) (w .1) ∙ ap (λ (p : Past). Seen (seenRound p)) (made-of g (mostRounds (g .proposals)) k (w .0) (w .1));
+      beyond = λ k h. sym (unrefused q c k (a .passes)) ∙ ap previewAs (elem-beyond rounds k (omega (arith, h, count)));
     }
 
 pub refusals-seen-ahead : RefusalsSeenAhead
-unfolding previewFor refusalFor outcomeFor runRefusalFor
+unfolding outcomeFor runRefusalFor
 refusals-seen-ahead q c logs records snapshots question e other k =
-    ap (λ (o : Option ℕ). previewUnless o (givenFor q c) k)
-    (⊎-elim (λ h. first-no (networkQuestions q) (configQuestions c) question h)
-    (λ h. all-yes (networkQuestions q) (configQuestions c) (h .0)
+    sym
+    (refused q c k question
+    (⊎-elim (network-no q c question)
+    (λ h. network-yes q c (h .0)
     ∙ ⊎-elim (λ w. w) (λ w. absurd (other (buffer-no (length logs) (length records) question (w .1))))
     (either-no (configQuestions c) (bufferQuestions (length logs) (length records)) question (h .1)))
     (either-no (networkQuestions q) (runQuestions c (length logs) (length records)) question
-    (refused-so (runRefusalFor q c (length logs) (length records)) (givenFor q c) logs records snapshots question e)))
+    (refused-so (runRefusalFor q c (length logs) (length records)) (givenFor q c) logs records snapshots question e))))

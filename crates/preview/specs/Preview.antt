@@ -11,19 +11,20 @@ use Rattle.rules.specs.Networks.{RowsOrTopology}
 use Rattle.rules.specs.Questions.{refusalFor}
 use Rattle.rules.specs.Run.{Given, Past, pastIn, runFor, run}
 use Rattle.rules.specs.Entries.{givenFor, outcomeFor}
-use Rattle.rules.specs.Answers.{roundView}
+use Rattle.rules.specs.Answers.{seenRound}
 use Rattle.preview.specs.declared.Preview.{Preview}
-use Rattle.preview.specs.declared.Preview.the-variants.{Round, Refused}
+use Rattle.preview.specs.declared.Preview.the-variants.{Seen, Refused}
 
--- the number of a round that the run doesn't have
+-- the refusal's number where the run has no such round
 abbrev pub noSuchRound : ℕ
 noSuchRound = 13
 
--- Round k among the rounds that the run has: its packet, and the nodes that took part. 13 where the run ends before it.
+-- a round of the list, or 13 where there is none
 abbrev pub previewAs : Option Past → Preview
 previewAs none = Refused noSuchRound
-previewAs (some p) = Round (roundView p)
+previewAs (some p) = Seen (seenRound p)
 
+-- Round k among the rounds that the run has: its packet, and the nodes that took part. 13 where the run ends before it.
 unfoldable pub previewIn : Given → ℕ → Preview
 previewIn g k = previewAs (getElem? (run g .running .rounds) k)
 
@@ -38,12 +39,12 @@ previewFor q c k = previewUnless (refusalFor q c) (givenFor q c) k
 
 -- ---- the law the other way round
 
--- The run of g with the summary s, seen round by round.
+-- The run that is asked for, with the summary s, seen round by round.
 pub record SeenAhead (q : RowsOrTopology) (c : Config) (s : Summary) : Type 0 where
   -- each of its rounds is what a preview shows
-  pub each : (k : ℕ) (p : Past) → getElem? (run (givenFor q c) .running .rounds) k ≡ some p → previewFor q c k ≡ Round (roundView p)
+  pub each : (k : ℕ) (p : Past) → getElem? (run (givenFor q c) .running .rounds) k ≡ some p → previewFor q c k ≡ Seen (seenRound p)
   -- so there is a preview of every round that it has, made by the rules of a round from where the run of k rounds stands
-  pub made : (k : ℕ) → k < s .rounds → previewFor q c k ≡ Round (roundView (pastIn (givenFor q c) k (runFor (givenFor q c) k .running)))
+  pub made : (k : ℕ) → k < s .rounds → previewFor q c k ≡ Seen (seenRound (pastIn (givenFor q c) k (runFor (givenFor q c) k .running)))
   -- and none of a round that it hasn't
   pub beyond : (k : ℕ) → s .rounds ≤ k → previewFor q c k ≡ Refused noSuchRound
 

@@ -11,26 +11,26 @@ use pipeline::records::HISTORY_SIZE;
 use rounds::run::LastRound;
 use rounds::run::Plan;
 use rounds::run::play;
-use rules::answer::RoundView;
+use rules::answer::SeenRound;
 use rules::networks::Extent;
-use rules::networks::Network;
 use rules::networks::network_of_rows;
 use rules::networks::network_of_topology;
 use rules::questions::Refusal;
 use rules::questions::config_refusal;
-ghost use Prim.Native.Nat.{_<_};
+ghost use Prim.Native.Nat.{ℕ, _<_};
 ghost use mathlib.Core.Path.{_≡_};
+ghost use mathlib.Core.List.{List};
 ghost use lib.ListN.{replicate};
 ghost use Rattle.config.specs.Limits.{mostRounds};
 ghost use Rattle.pipeline.specs.View.{tableSize};
 ghost use Rattle.rules.specs.Accepted.{Accepted};
-ghost use Rattle.rules.specs.Networks.{RowsOrTopology, ofRows, ofTopology, networkFor, AskedFor};
+ghost use Rattle.rules.specs.Networks.{RowsOrTopology, ofRows, ofTopology, network, networkFor, AskedFor};
 ghost use Rattle.rounds.specs.Going.{planned};
 ghost use Rattle.preview.specs.Preview.{previewIn, previewFor};
 
 // What a look ahead answers: the round, or the refusal with its number.
 pub enum Preview {
-    Round(RoundView),
+    Seen(SeenRound),
     Refused(u64),
 }
 
@@ -49,17 +49,17 @@ fn preview_over(graph: &[u64; MAX_NODES], plan: Plan, k: u64, states: &mut [u64]
     let last = stopped.last;
     match last {
         LastRound::None => Preview::Refused(NO_SUCH_ROUND),
-        LastRound::Of(view) => {
+        LastRound::Of(seen) => {
             if stopped.rounds < most {
                 return Preview::Refused(NO_SUCH_ROUND);
             }
-            Preview::Round(view)
+            Preview::Seen(seen)
         }
     }
 }
 
-// Round k of the run of a graph. No run has more rounds than are enough. A table of states that fits few nodes takes
-// less time to zero.
+// Round k of the run of a graph. From P + 1,002 on no run has a round. A table of states that fits few nodes takes less
+// time to zero.
 fn preview_graph(graph: &[u64; MAX_NODES], plan: Plan, k: u64) -> Preview
     requires { ⌜ Accepted (planned (now graph) plan) ⌝ }
     ensures { λ r. ⌜ r ≡ previewIn (planned (now (graph .entry)) plan) k ⌝ }
@@ -79,12 +79,11 @@ fn preview_graph(graph: &[u64; MAX_NODES], plan: Plan, k: u64) -> Preview
     preview_over(graph, plan, k, &mut all)
 }
 
-// Round k of the run of a network that was asked for: questions 5 to 9, then the round.
-fn preview_network(network: Network, config: Config, k: u64) -> Preview
-    requires { ⌜ AskedFor network ⌝ }
-    ensures { λ r. ⌜ ((q : RowsOrTopology) → network ≡ networkFor q → r ≡ previewFor q config k) ⌝ }
+// Round k of the run of the network that was asked for: questions 5 to 9, then the round.
+fn preview_network(extent: Extent, graph: &[u64; MAX_NODES], config: Config, k: u64) -> Preview
+    requires { ⌜ AskedFor (network extent (now graph)) ⌝ }
+    ensures { λ r. ⌜ ((q : RowsOrTopology) (lent : List ℕ) → network extent (now (graph .entry)) ≡ networkFor q lent → r ≡ previewFor q config k) ⌝ }
 {
-    let extent = network.extent;
     match extent {
         Extent::Refused(question) => Preview::Refused(question),
         Extent::Of(nodes, diameter) => {
@@ -92,13 +91,12 @@ fn preview_network(network: Network, config: Config, k: u64) -> Preview
             match refusal {
                 Refusal::Number(question) => Preview::Refused(question),
                 Refusal::None => {
-                    let graph = network.rows;
                     let plan = Plan {
                         nodes,
                         diameter,
                         config,
                     };
-                    preview_graph(&graph, plan, k)
+                    preview_graph(graph, plan, k)
                 }
             }
         }
@@ -109,8 +107,9 @@ fn preview_network(network: Network, config: Config, k: u64) -> Preview
 pub fn preview_rows(rows: &[u32], n: u64, config: Config, k: u64) -> Preview
     ensures { λ r. ⌜ r ≡ previewFor (ofRows (now (rows .entry)) n) config k ⌝ }
 {
-    let network = network_of_rows(rows, n);
-    preview_network(network, config, k)
+    let mut graph = [0u64; MAX_NODES];
+    let extent = network_of_rows(rows, n, &mut graph);
+    preview_network(extent, &graph, config, k)
 }
 
 // Round k, the first being 0, of the run of the topology with that number. `first` is the number of nodes, for a grid of
@@ -118,6 +117,7 @@ pub fn preview_rows(rows: &[u32], n: u64, config: Config, k: u64) -> Preview
 pub fn preview_topology(topology: u64, first: u64, second: u64, config: Config, k: u64) -> Preview
     ensures { λ r. ⌜ r ≡ previewFor (ofTopology topology first second) config k ⌝ }
 {
-    let network = network_of_topology(topology, first, second);
-    preview_network(network, config, k)
+    let mut graph = [0u64; MAX_NODES];
+    let extent = network_of_topology(topology, first, second, &mut graph);
+    preview_network(extent, &graph, config, k)
 }

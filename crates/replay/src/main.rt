@@ -1,8 +1,9 @@
 // Answers every line of its input as the Rust source does. The first 71 lines put each question
 // on both sides of its boundary; the next 664 were chosen among those of `oracle/`'s program
 // `inputs` (small, random and broken), so that each end, lossy runs, NACKs, piggybacks, graphs given
-// by rows and refusals are among them; three are at edges that those miss; the rest ask for one round,
-// chosen likewise. `stdout` is what `oracle/`'s program `answer` prints for `stdin`.
+// by rows and refusals are among them; three are at edges that those miss. The
+// rest ask for one round: 12 of the printed run and about it, 350 chosen likewise among those of
+// `inputs previews`, and the rounds of the worked example of docs/RULES.md. `stdout` is what `oracle/`'s program `answer` prints for `stdin`.
 mod rounds_shown;
 
 use config::limits::LISTED_SIZE;
@@ -178,7 +179,7 @@ fn answer_wanted(line: &[u8], wanted: Wanted, out: &mut [u8]) -> usize
     answer_topology(line, wanted, out)
 }
 
-// The answer to a line, or to one behind `round K`.
+// The answer to a line, or to one behind `round K`: the third letter tells it from `rows`.
 fn answer(line: &[u8], out: &mut [u8]) -> usize
     ensures { λ r. ⌜ r ≤ listingMost ⌝ }
 {

@@ -14,9 +14,9 @@ fn put_spaced(n: u64) {
     io::print_decimal(STDOUT_FILENO, n);
 }
 
-fn put_refused(k: u64) {
+fn put_refused(question: u64) {
     io::write_all(STDOUT_FILENO, b"refused");
-    put_spaced(k);
+    put_spaced(question);
 }
 
 fn put_round(packet: &[u64; PACKET_SIZE], part: u64) {

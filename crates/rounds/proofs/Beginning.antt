@@ -94,14 +94,14 @@ module _ (n listening : ℕ) (few : n ≤ maxNodes) (all : listening ≡ 2 ^ n -
 
 -- ---- the nodes' part
 
--- its size where there are few nodes, some, or more
-pub table-few : (n : ℕ) → n ≤ fewNodes → nodeSize * fewNodes ≡ tableSize n
+-- the table of empty states where there are few nodes, some, or more
+pub table-few : (n : ℕ) → n ≤ fewNodes → replicate {A = ℕ} (nodeSize * fewNodes) 0 ≡ replicate (tableSize n) 0
 table-few n h = rw (le-leb n fewNodes h)
 
-pub table-some : (n : ℕ) → fewNodes < n → n ≤ someNodes → nodeSize * someNodes ≡ tableSize n
+pub table-some : (n : ℕ) → fewNodes < n → n ≤ someNodes → replicate {A = ℕ} (nodeSize * someNodes) 0 ≡ replicate (tableSize n) 0
 table-some n l h = rw (lt-leb n fewNodes l, le-leb n someNodes h)
 
-pub table-all : (n : ℕ) → someNodes < n → nodeSize * maxNodes ≡ tableSize n
+pub table-all : (n : ℕ) → someNodes < n → replicate {A = ℕ} (nodeSize * maxNodes) 0 ≡ replicate (tableSize n) 0
 table-all n l = rw (lt-leb n fewNodes (omega arith), lt-leb n someNodes l)
 
 -- the table has room for all of them

@@ -159,5 +159,5 @@ module _ {graph : List ℕ} {p : Plan} {k : ℕ} {x : Run} {w : Workspace} {b₀
               piggybacks = omega (arith, pc .piggybacks, pr .piggybacks, g₀ .steady .piggybacks, ok .few);
             }
 
-        pub round-plays : Plays graph p k x w (record { run = after; view = record { packet = prepared .packet; part = flooded .part } }) then
-        round-plays = record { steady = steady; shows = λ b₁ s g. shows g; view = λ b₁ s g i. record { packet = packet-is g i; part = part-is g i } }
+        pub round-plays : Plays graph p k x w (record { run = after; round = record { packet = prepared .packet; part = flooded .part } }) then
+        round-plays = record { steady = steady; shows = λ b₁ s g. shows g; round = λ b₁ s g i. record { packet = packet-is g i; part = part-is g i } }

@@ -18,7 +18,7 @@ use Rattle.protocol.specs.Paxos.{State}
 use Rattle.protocol.proofs.Kept.{kept-mono}
 use Rattle.pipeline.specs.Round.{Shared, shortestLog}
 use Rattle.pipeline.specs.View.{AllKept, Sharing, tableSize, statesOf, recordsOf, recordAt, sharedOf}
-use Rattle.rules.specs.Answers.{roundView}
+use Rattle.rules.specs.Answers.{seenRound}
 use Rattle.rules.specs.Run.{Given, Past, Running, Ended, begin, pastIn, runRound, complete, endAfter, roundsFrom, runFor}
 use Rattle.rules.proofs.Coverage.{held-begin, held-round}
 use Rattle.rules.proofs.Ends.{from-limit, from-next, from-end, shortest-new}
@@ -113,12 +113,12 @@ underway-new graph p most x w can new =
 
 -- ---- the last round
 
-last-snoc : (rounds : List Past) (p : Past) → lastRound (rounds ++ (p ∷ [])) ≡ Of (roundView p)
+last-snoc : (rounds : List Past) (p : Past) → lastRound (rounds ++ (p ∷ [])) ≡ Of (seenRound p)
 last-snoc [] p = refl
 last-snoc (q ∷ []) p = refl
 last-snoc (q ∷ r ∷ rounds) p = last-snoc (r ∷ rounds) p
 
-last-next : (g : Given) (k : ℕ) (s : Running) → lastRound (runRound g k s .rounds) ≡ Of (roundView (pastIn g k s))
+last-next : (g : Given) (k : ℕ) (s : Running) → lastRound (runRound g k s .rounds) ≡ Of (seenRound (pastIn g k s))
 unfolding runRound
 last-next g k s = last-snoc (s .rounds) (pastIn g k s)
 
@@ -172,8 +172,8 @@ module _ {graph : List ℕ} {p : Plan} {most : ℕ} {b₀ : List ℕ} where
         rounds : length (next .rounds) ≡ k + 1
         rounds = rounds-more (planned graph p) k (u .here) ∙ ap (λ (m : ℕ). m + 1) (u .going .rounds)
 
-        seen-last : Of (r .view) ≡ lastRound (next .rounds)
-        seen-last = ap Of (pl .view b₀ (u .here) (u .going)) ∙ sym (last-next (planned graph p) k (u .here))
+        seen-last : Of (r .round) ≡ lastRound (next .rounds)
+        seen-last = ap Of (pl .round b₀ (u .here) (u .going)) ∙ sym (last-next (planned graph p) k (u .here))
 
         abbrev told : ℕ
         told = cond (logs .complete) 1 (cond (eqb (r .run .carry .recorded .count) (p .config .«num_proposals») && ltb (p .config .«num_proposals» + 5 * p .diameter) k) 2 (cond (ltb (p .config .«num_proposals» + extraRounds) k) 3 0))
@@ -184,14 +184,14 @@ module _ {graph : List ℕ} {p : Plan} {most : ℕ} {b₀ : List ℕ} where
             cond ((seen .complete ∙ ap (complete (p .nodes) (p .config .«num_proposals»)) (states-are shown)) i) 1
             (cond (eqb (count-is shown i) (p .config .«num_proposals») && ltb (p .config .«num_proposals» + 5 * p .diameter) k) 2 (cond (ltb (p .config .«num_proposals» + extraRounds) k) 3 0))
 
-        pub at-end : (end : ℕ) → end ≡ told → (end ≡ 0 → ⊥) → Goes graph p most (record { run = showing (logs .shortest) (r .run); rounds = k + 1; last = Of (r .view); ended = end }) b₀ w'
+        pub at-end : (end : ℕ) → end ≡ told → (end ≡ 0 → ⊥) → Goes graph p most (record { run = showing (logs .shortest) (r .run); rounds = k + 1; last = Of (r .round); ended = end }) b₀ w'
         at-end end e q =
             let same : endAfter (planned graph p) k next ≡ end = sym (e ∙ end-is) in
             goes-as (record { running = next; ended = endAfter (planned graph p) k next })
             (sym from-here ∙ from-end (planned graph p) (most - (k + 1)) k (u .here) under (ap (λ (m : ℕ). eqb m 0) same ∙ ne-eqb end 0 q))
             (shows-as shown) (steady-as (pl .steady)) rounds seen-last (sym same) (omega (arith, more))
 
-        pub goes-on : (end : ℕ) → end ≡ told → end ≡ 0 → Underway graph p most (k + 1) (showing (logs .shortest) (r .run)) (Of (r .view)) w' b₀
+        pub goes-on : (end : ℕ) → end ≡ told → end ≡ 0 → Underway graph p most (k + 1) (showing (logs .shortest) (r .run)) (Of (r .round)) w' b₀
         goes-on end e z =
             record {
               here = next;

@@ -15,7 +15,7 @@ use Rattle.pipeline.specs.View.{AllKept, statesOf, Sharing, sharedOf, tableSize
 use Rattle.rules.specs.Accepted.{Accepted}
 use Rattle.rules.specs.Coverage.{HeldPackets}
 use Rattle.rules.specs.Entries.{givenAs}
-use Rattle.rules.specs.Answers.{roundView}
+use Rattle.rules.specs.Answers.{seenRound}
 use Rattle.rules.specs.Run.{Given, Past, Running, begin, complete, pastIn, runRound, roundsFrom, runFor}
 use Rattle.rounds.specs.declared.run.Plan.{Plan}
 use Rattle.rounds.specs.declared.run.Run.{Run}
@@ -99,7 +99,7 @@ pub record CanPlay (graph : List ℕ) (p : Plan) (k : ℕ) (x : Run) (w : Worksp
 pub record Plays (graph : List ℕ) (p : Plan) (k : ℕ) (x : Run) (w : Workspace) (r : Played) (w' : Workspace) : Type 0 where
   pub steady : Steady (planned graph p .heard) p (k + 1) (r .run) w'
   pub shows : (b₀ : List ℕ) (s : Running) → Going graph p k x w b₀ s → Shows p (r .run) w' b₀ (runRound (planned graph p) k s)
-  pub view : (b₀ : List ℕ) (s : Running) → Going graph p k x w b₀ s → r .view ≡ roundView (pastIn (planned graph p) k s)
+  pub round : (b₀ : List ℕ) (s : Running) → Going graph p k x w b₀ s → r .round ≡ seenRound (pastIn (planned graph p) k s)
 
 -- ---- the logs
 
@@ -133,7 +133,7 @@ pub record CanGo (graph : List ℕ) (p : Plan) (most : ℕ) (w : Workspace) : Ty
 -- the last of some rounds
 abbrev pub lastRound : List Past → LastRound
 lastRound [] = None
-lastRound (p ∷ []) = Of (roundView p)
+lastRound (p ∷ []) = Of (seenRound p)
 lastRound (p ∷ q ∷ rounds) = lastRound (q ∷ rounds)
 
 -- Of a run that may take `most` rounds, k are played.

@@ -20,7 +20,7 @@ use pipeline::round::prepare_round;
 use pipeline::round::process_round;
 use random::draws::STREAM_SIZE;
 use random::draws::begin_draws;
-use rules::answer::RoundView;
+use rules::answer::SeenRound;
 ghost use mathlib.Core.Path.{_≡_};
 ghost use mathlib.Core.Bool.{cond, _&&_};
 ghost use lib.Dec.{eqb, ltb};
@@ -46,13 +46,13 @@ pub struct Run {
 // One round that was run: where the run stands after it, and what is seen of it.
 pub struct Played {
     pub run: Run,
-    pub view: RoundView,
+    pub round: SeenRound,
 }
 
 // The last round that was run, if one was.
 pub enum LastRound {
     None,
-    Of(RoundView),
+    Of(SeenRound),
 }
 
 // A run that has stopped, after how many rounds, the last of them, and its end; 0 where the rounds were used up.
@@ -167,8 +167,8 @@ fn run_round(
         covered: x.covered + u64::count_ones(part) as u64,
         progress: x.progress,
     };
-    let view = RoundView { packet, part };
-    Played { run, view }
+    let seen = SeenRound { packet, part };
+    Played { run, round: seen }
 }
 
 // The end after round k, or 0.
@@ -218,8 +218,8 @@ fn play_rounds(
         }
         let played = run_round(graph, plan, k, x, queue, stream, states, history, snapshots);
         x = played.run;
-        let view = played.view;
-        last = LastRound::Of(view);
+        let round = played.round;
+        last = LastRound::Of(round);
         let seen = survey(states, plan.nodes, proposals as usize);
         x.progress = seen.shortest;
         let records = x.carry.recorded.count;

@@ -8,7 +8,6 @@ use lib.ListN.{length}
 use Rattle.config.specs.Limits.{logSize, recordsSize}
 use Rattle.network.specs.Questions.{firstNo}
 use Rattle.network.proofs.Distances.{diameter-lt}
-use Rattle.network.proofs.Within.{all-yes}
 use Rattle.metrics.specs.declared.summary.Summary.{Summary}
 use Rattle.config.specs.declared.Config.{Config}
 use Rattle.rules.specs.declared.answer.Answer.the-variants.{Ran, Refused}
@@ -18,7 +17,7 @@ use Rattle.rules.specs.Accepted.{MeasuredGraph, Accepted}
 use Rattle.rules.specs.Run.{Given, run}
 use Rattle.rules.specs.Entries.{summaryOf, ranWith, givenAs, givenFor, outcomeOf, outcomeFor}
 use Rattle.rules.proofs.FirstNo.{both-none, config-facts, buffer-facts}
-use Rattle.rules.proofs.Found.{network-measured}
+use Rattle.rules.proofs.Found.{network-measured, network-yes}
 
 -- the buffers are long enough
 pub record Roomy (logs records : List ℕ) : Type 0 where
@@ -67,14 +66,14 @@ pub record Admitted (q : RowsOrTopology) (c : Config) (logs records snapshots : 
   pub summary : summaryOf (givenFor q c) (run (givenFor q c)) ≡ s
 
 pub admitted : (q : RowsOrTopology) (c : Config) (logs records snapshots : List ℕ) (s : Summary) → outcomeFor q c logs records snapshots .answer ≡ Ran s → Admitted q c logs records snapshots s
-unfolding outcomeFor refusalFor runRefusalFor
+unfolding outcomeFor runRefusalFor
 admitted q c logs records snapshots s e =
     let g : Given = givenFor q c in
     let r = ran-so (runRefusalFor q c (length logs) (length records)) g logs records snapshots s e in
     let yes = both-none (networkQuestions q) (runQuestions c (length logs) (length records)) (r .0) in
     let pass = both-none (configQuestions c) (bufferQuestions (length logs) (length records)) (yes .1) in
     record {
-      passes = all-yes (networkQuestions q) (configQuestions c) (yes .0) ∙ pass .0;
+      passes = network-yes q c (yes .0) ∙ pass .0;
       accepted = accepts c (network-measured q (yes .0)) (pass .0);
       roomy = roomy logs records (pass .1);
       ran = ap (λ (o : Option ℕ). outcomeOf o g logs records snapshots) (r .0);

@@ -62,12 +62,18 @@ module _ (g : Given) where
         same = elem-front (r .rounds) (pastIn g k r ∷ []) i (now .played) ∙ now .same;
       }
 
-  pub stays : (most k : ℕ) (r : Running) (i : ℕ) → i < length (r .rounds) → getElem? (roundsFrom g most k r .running .rounds) i ≡ getElem? (r .rounds) i
+  stays : (most k : ℕ) (r : Running) (i : ℕ) → i < length (r .rounds) → getElem? (roundsFrom g most k r .running .rounds) i ≡ getElem? (r .rounds) i
   stays most k r i h =
       along-rounds g (λ _ x. Keeps (r .rounds) i x) (λ j x now. keeps-next (r .rounds) i j x now) most k r (record { played = h; same = refl }) .holds .same
 
   abbrev nth : Ended → ℕ → Option Past
   nth x i = getElem? (x .running .rounds) i
+
+  at : {x y : Ended} (i : ℕ) → x ≡ y → nth x i ≡ nth y i
+  at i q = ap (λ (x : Ended). nth x i) q
+
+  long : (k : ℕ) (r : Running) → length (r .rounds) ≡ k → length (runRound g k r .rounds) ≡ suc k
+  long k r e = rounds-more g k r ∙ omega (arith, e)
 
   -- ---- fewer rounds and more
 
@@ -78,30 +84,21 @@ module _ (g : Given) where
   same-from (suc fewer) zero k r i e h l = absurd (omega arith)
   same-from (suc fewer) (suc more) k r i e h l =
       ⊎-elim
-      (λ b. at (from-limit g fewer k r b ∙ sym (from-limit g more k r b)))
+      (λ b. at (k + i) (from-limit g fewer k r b ∙ sym (from-limit g more k r b)))
       (λ b.
       ⊎-elim
-      (λ f. at-both (from-next g fewer k r b f) (from-next g more k r b f) (onward i (λ j. same-from fewer more (suc k) next j long) h l))
-      (λ f. at (from-end g fewer k r b f ∙ sym (from-end g more k r b f)))
+      (λ f. at (k + i) (from-next g fewer k r b f) ∙ onward i (λ j. same-from fewer more (suc k) next j (long k r e)) h l ∙ sym (at (k + i) (from-next g more k r b f)))
+      (λ f. at (k + i) (from-end g fewer k r b f ∙ sym (from-end g more k r b f)))
       (two (eqb (endAfter g k next) 0)))
       (two (leb (g .limit) (r .standing .slot)))
     where
       next : Running
       next = runRound g k r
 
-      at : {x y : Ended} → x ≡ y → nth x (k + i) ≡ nth y (k + i)
-      at q = ap (λ (x : Ended). nth x (k + i)) q
-
-      at-both : {x y z w : Ended} → x ≡ z → y ≡ w → nth z (k + i) ≡ nth w (k + i) → nth x (k + i) ≡ nth y (k + i)
-      at-both p q s = at p ∙ s ∙ sym (at q)
-
-      long : length (next .rounds) ≡ suc k
-      long = rounds-more g k r ∙ omega (arith, e)
-
       onward : (j : ℕ) →
           ((m : ℕ) → m < fewer → m < more → nth (roundsFrom g fewer (suc k) next) (suc k + m) ≡ nth (roundsFrom g more (suc k) next) (suc k + m)) →
           j < suc fewer → j < suc more → nth (roundsFrom g fewer (suc k) next) (k + j) ≡ nth (roundsFrom g more (suc k) next) (k + j)
-      onward zero later h l = let q : k + 0 < length (next .rounds) = omega (arith, long) in stays fewer (suc k) next (k + 0) q ∙ sym (stays more (suc k) next (k + 0) q)
+      onward zero later h l = let q : k + 0 < length (next .rounds) = omega (arith, long k r e) in stays fewer (suc k) next (k + 0) q ∙ sym (stays more (suc k) next (k + 0) q)
       onward (suc j) later h l =
           let q : k + suc j ≡ suc k + j = omega arith in
           subst (λ (m : ℕ). nth (roundsFrom g fewer (suc k) next) m ≡ nth (roundsFrom g more (suc k) next) m) (sym q)
@@ -131,20 +128,14 @@ module _ (g : Given) where
   made-from zero k r i p e q = absurd (none-there (r .rounds) (k + i) p (omega (arith, e)) q)
   made-from (suc most) k r i p e q =
       ⊎-elim
-      (λ b. absurd (none-there (r .rounds) (k + i) p (omega (arith, e)) (sym (at (from-limit g most k r b)) ∙ q)))
+      (λ b. absurd (none-there (r .rounds) (k + i) p (omega (arith, e)) (sym (at (k + i) (from-limit g most k r b)) ∙ q)))
       (λ b.
-      ⊎-elim (λ f. onward i (λ j. made-from most (suc k) next j p long) b f (sym (at (from-next g most k r b f)) ∙ q)) (λ f. ends i (sym (at (from-end g most k r b f)) ∙ q))
+      ⊎-elim (λ f. onward i (λ j. made-from most (suc k) next j p (long k r e)) b f (sym (at (k + i) (from-next g most k r b f)) ∙ q)) (λ f. ends i (sym (at (k + i) (from-end g most k r b f)) ∙ q))
       (two (eqb (endAfter g k next) 0)))
       (two (leb (g .limit) (r .standing .slot)))
     where
       next : Running
       next = runRound g k r
-
-      at : {x y : Ended} → x ≡ y → nth x (k + i) ≡ nth y (k + i)
-      at s = ap (λ (x : Ended). nth x (k + i)) s
-
-      long : length (next .rounds) ≡ suc k
-      long = rounds-more g k r ∙ omega (arith, e)
 
       -- the round just played
       this : getElem? (next .rounds) (k + 0) ≡ some p → p ≡ pastIn g (k + 0) r
@@ -157,12 +148,12 @@ module _ (g : Given) where
 
       ends : (i : ℕ) → getElem? (next .rounds) (k + i) ≡ some p → p ≡ pastIn g (k + i) (roundsFrom g i k r .running)
       ends zero s = this s
-      ends (suc j) s = absurd (none-there (next .rounds) (k + suc j) p (omega (arith, long)) s)
+      ends (suc j) s = absurd (none-there (next .rounds) (k + suc j) p (omega (arith, long k r e)) s)
 
       onward : (i : ℕ) → ((j : ℕ) → nth (roundsFrom g most (suc k) next) (suc k + j) ≡ some p → p ≡ pastIn g (suc k + j) (roundsFrom g j (suc k) next .running)) →
           leb (g .limit) (r .standing .slot) ≡ false → eqb (endAfter g k next) 0 ≡ true → nth (roundsFrom g most (suc k) next) (k + i) ≡ some p →
           p ≡ pastIn g (k + i) (roundsFrom g i k r .running)
-      onward zero later b f s = this (sym (stays most (suc k) next (k + 0) (omega (arith, long))) ∙ s)
+      onward zero later b f s = this (sym (stays most (suc k) next (k + 0) (omega (arith, long k r e))) ∙ s)
       onward (suc j) later b f s =
           let y : k + suc j ≡ suc k + j = omega arith in
           later j (ap (nth (roundsFrom g most (suc k) next)) (sym y) ∙ s)

@@ -1,4 +1,4 @@
--- The network that is asked for: what its questions leave, and what asking for it answers. Assumes nothing.
+-- The network that is asked for: what its questions leave, what asking for it answers, and what is asked then. Assumes nothing.
 use Prim.Native.Nat.{ℕ, _≤_}
 use mathlib.Core.List.{List}
 use mathlib.Core.Option.{Option, none, some}
@@ -14,12 +14,12 @@ use Rattle.network.specs.declared.distance.Measured.the-variants.{Links, Refuse
 use Rattle.network.proofs.Checks.{agree-checked, diameter-agree}
 use Rattle.network.proofs.Rows.{getD-widened, length-widened}
 use Rattle.network.proofs.Topologies.{rows-checked}
-use Rattle.network.proofs.Within.{within-both, topology-nodes}
-use Rattle.rules.specs.declared.networks.Network.{Network}
+use Rattle.network.proofs.Within.{first-no, all-yes, within-both, topology-nodes}
 use Rattle.rules.specs.declared.networks.Extent.the-variants.{Of, Refused}
 use Rattle.rules.specs.Accepted.{MeasuredGraph}
+use Rattle.rules.specs.Questions.{configQuestions, refusalFor}
 use Rattle.rules.specs.Entries.{givenAs, givenFor}
-use Rattle.rules.specs.Networks.{RowsOrTopology, ofRows, ofTopology, networkQuestions, nodesIn, rowsIn, graphIn, refusedNetwork, networkAs, networkFor}
+use Rattle.rules.specs.Networks.{RowsOrTopology, ofRows, ofTopology, networkQuestions, nodesIn, rowsIn, graphIn, Network, network, networkAs, networkFor}
 use Rattle.rules.proofs.FirstNo.{row-facts}
 
 -- ---- rows: what the answer of `measure` says
@@ -67,15 +67,15 @@ network-measured q e =
 
 -- ---- what asking for it answers
 
-module _ (q : RowsOrTopology) where
-  pub is-refused : (k : ℕ) → firstNo (networkQuestions q) ≡ some k → refusedNetwork k ≡ networkFor q
+module _ (q : RowsOrTopology) (lent : List ℕ) where
+  pub is-refused : (k : ℕ) → firstNo (networkQuestions q) ≡ some k → network (Refused k) lent ≡ networkFor q lent
   unfolding networkFor
-  is-refused k e = ap (networkAs q) (sym e)
+  is-refused k e = ap (networkAs q lent) (sym e)
 
   pub is-found : {graph : List ℕ} {n d : ℕ} → firstNo (networkQuestions q) ≡ none → graph ≡ graphIn q → n ≡ nodesIn q → d ≡ diameter (graphIn q) (nodesIn q)
-      → record { extent = Of n d; rows = graph } ≡ networkFor q
+      → network (Of n d) graph ≡ networkFor q lent
   unfolding networkFor
-  is-found e graph nodes links = (λ i. record { extent = Of (nodes i) (links i); rows = graph i }) ∙ ap (networkAs q) (sym e)
+  is-found e graph nodes links = (λ i. network (Of (nodes i) (links i)) (graph i)) ∙ ap (networkAs q lent) (sym e)
 
 -- the questions let it pass, and these are its graph, its number of nodes and its diameter
 pub record Found (q : RowsOrTopology) (graph : List ℕ) (n d : ℕ) : Type 0 where
@@ -83,25 +83,25 @@ pub record Found (q : RowsOrTopology) (graph : List ℕ) (n d : ℕ) : Type 0 wh
   pub measured : MeasuredGraph graph n d
   pub given : (c : Config) → givenAs graph n d c ≡ givenFor q c
 
-module _ (q : RowsOrTopology) {x : Network} (e : x ≡ networkFor q) where
+module _ (q : RowsOrTopology) (lent : List ℕ) {x : Network} (e : x ≡ networkFor q lent) where
   pub network-refused : (k : ℕ) → x .extent ≡ Refused k → firstNo (networkQuestions q) ≡ some k
   unfolding networkFor
   network-refused k a = go (firstNo (networkQuestions q)) (sym (ap (λ (y : Network). y .extent) e) ∙ a)
     where
-      go : (o : Option ℕ) → networkAs q o .extent ≡ Refused k → o ≡ some k
+      go : (o : Option ℕ) → networkAs q lent o .extent ≡ Refused k → o ≡ some k
       go none p = let z : _≡_ {A = ℕ} 0 1 = cc in absurd (omega arith)
       go (some j) p = cc
 
-  pub network-found : (n d : ℕ) → x .extent ≡ Of n d → Found q (x .rows) n d
+  pub network-found : (n d : ℕ) → x .extent ≡ Of n d → Found q (x .graph) n d
   unfolding networkFor
   network-found n d a = go (firstNo (networkQuestions q)) refl (sym (ap (λ (y : Network). y .extent) e) ∙ a)
     where
-      go : (o : Option ℕ) → firstNo (networkQuestions q) ≡ o → networkAs q o .extent ≡ Of n d → Found q (x .rows) n d
+      go : (o : Option ℕ) → firstNo (networkQuestions q) ≡ o → networkAs q lent o .extent ≡ Of n d → Found q (x .graph) n d
       go (some j) f p = let z : _≡_ {A = ℕ} 0 1 = cc in absurd (omega arith)
       go none f p =
           let nodes : nodesIn q ≡ n = cc in
           let links : diameter (graphIn q) (nodesIn q) ≡ d = cc in
-          let graph : x .rows ≡ graphIn q = ap (λ (y : Network). y .rows) e ∙ ap (λ (o : Option ℕ). networkAs q o .rows) f in
+          let graph : x .graph ≡ graphIn q = ap (λ (y : Network). y .graph) e ∙ ap (λ (o : Option ℕ). networkAs q lent o .graph) f in
           record {
             passes = f;
             measured =
@@ -109,3 +109,16 @@ module _ (q : RowsOrTopology) {x : Network} (e : x ≡ networkFor q) where
                 (subst (λ (m : ℕ). MeasuredGraph (graphIn q) m d) nodes (subst (MeasuredGraph (graphIn q) (nodesIn q)) links (network-measured q f)));
             given = λ c i. givenAs (graph i) (sym nodes i) (sym links i) c;
           }
+
+-- ---- the refusal where no buffer is asked for
+
+module _ (q : RowsOrTopology) (c : Config) where
+  -- the network's questions refuse it
+  pub network-no : (k : ℕ) → firstNo (networkQuestions q) ≡ some k → refusalFor q c ≡ some k
+  unfolding refusalFor
+  network-no k e = first-no (networkQuestions q) (configQuestions c) k e
+
+  -- they let it pass, and those of the configuration are left
+  pub network-yes : firstNo (networkQuestions q) ≡ none → refusalFor q c ≡ firstNo (configQuestions c)
+  unfolding refusalFor
+  network-yes e = all-yes (networkQuestions q) (configQuestions c) e

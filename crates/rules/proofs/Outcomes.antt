@@ -1,8 +1,8 @@
 -- The outcome of a run, from what asking for its network answered. Assumes nothing.
 use Prim.Native.Nat.{ℕ}
-use mathlib.Core.Path.{_≡_, sym, ap, ap₂, _∙_}
+use mathlib.Core.Path.{_≡_, sym, ap, ap₂}
 use mathlib.Core.List.{List}
-use mathlib.Core.Option.{Option, none, some}
+use mathlib.Core.Option.{Option, some}
 use lib.ListN.{length}
 use Rattle.config.specs.declared.Config.{Config}
 use Rattle.network.specs.Questions.{firstNo}

@@ -7,7 +7,7 @@ use Rattle.rules.specs.declared.answer.Answer.{Answer}
 use Rattle.rules.specs.declared.answer.Answer.the-variants.{Ran}
 use Rattle.rules.specs.declared.questions.Refusal.{Refusal}
 use Rattle.rules.specs.declared.questions.Refusal.the-variants.{None, Number}
-use Rattle.rules.specs.declared.answer.RoundView.{RoundView}
+use Rattle.rules.specs.declared.answer.SeenRound.{SeenRound}
 use Rattle.rules.specs.Run.{Past}
 use Rattle.rules.specs.Entries.{Outcome}
 
@@ -25,5 +25,5 @@ abbrev pub ran : Summary → List ℕ → List ℕ → List ℕ → Outcome
 ran s logs records snapshots = outcome (Ran s) logs records snapshots
 
 -- what is seen of a round: its packet, and who took part
-abbrev pub roundView : Past → RoundView
-roundView p = record { packet = p .packet; part = p .flooded .part }
+abbrev pub seenRound : Past → SeenRound
+seenRound p = record { packet = p .packet; part = p .flooded .part }

@@ -1,17 +1,15 @@
--- The network that is asked for, by rows or by a topology: the questions put to it, its rows, and what asking for it answers (rules 3.1,
--- 3.2, 3.6, 9.2 and 9.3).
+-- The network that is asked for, by rows or by a topology: the questions put to it, its rows, and what asking for it answers (rules 3.1
+-- to 3.5, 9.2 and 9.3).
 use Prim.Native.Nat.{ℕ}
 use mathlib.Core.Bool.{Bool}
 use mathlib.Core.List.{List}
 use mathlib.Core.Option.{Option, none, some}
 use mathlib.Core.Path.{_≡_}
-use lib.ListN.{replicate}
-use Rattle.config.specs.Limits.{maxNodes}
 use Rattle.network.specs.Graph.{widened}
 use Rattle.network.specs.Questions.{firstNo, nodesOf, rowsQuestions, topologyQuestions}
 use Rattle.network.specs.Topology.{topologyRows, topologyOf}
 use Rattle.network.specs.Distance.{diameter}
-use Rattle.rules.specs.declared.networks.Network.{Network}
+use Rattle.rules.specs.declared.networks.Extent.{Extent}
 use Rattle.rules.specs.declared.networks.Extent.the-variants.{Of, Refused}
 
 -- rows for n nodes, or a topology with its two numbers
@@ -37,18 +35,22 @@ rowsIn (ofTopology topology first second) = topologyRows (topologyOf topology se
 abbrev pub graphIn : RowsOrTopology → List ℕ
 graphIn q = widened (rowsIn q) (nodesIn q)
 
--- a refusal, with no link at all
-abbrev pub refusedNetwork : ℕ → Network
-refusedNetwork k = record { extent = Refused k; rows = replicate maxNodes 0 }
+-- What asking for a network answers, and what the array that was lent for its graph then holds.
+pub record Network : Type 0 where
+  pub extent : Extent
+  pub graph : List ℕ
 
--- the graph with its number of nodes and its diameter, or the refusal, from its number or none
-abbrev pub networkAs : RowsOrTopology → Option ℕ → Network
-networkAs q none = record { extent = Of (nodesIn q) (diameter (graphIn q) (nodesIn q)); rows = graphIn q }
-networkAs q (some k) = refusedNetwork k
+abbrev pub network : Extent → List ℕ → Network
+network extent graph = record { extent = extent; graph = graph }
 
-unfoldable pub networkFor : RowsOrTopology → Network
-networkFor q = networkAs q (firstNo (networkQuestions q))
+-- the number of nodes and the diameter with the graph, or the refusal, which leaves the array as it was, from its number or none
+abbrev pub networkAs : RowsOrTopology → List ℕ → Option ℕ → Network
+networkAs q lent none = network (Of (nodesIn q) (diameter (graphIn q) (nodesIn q))) (graphIn q)
+networkAs q lent (some k) = network (Refused k) lent
+
+unfoldable pub networkFor : RowsOrTopology → List ℕ → Network
+networkFor q lent = networkAs q lent (firstNo (networkQuestions q))
 
 -- it is what asking for some network answered
 abbrev pub AskedFor : Network → Type 0
-AskedFor x = (q : RowsOrTopology) × (x ≡ networkFor q)
+AskedFor x = (q : RowsOrTopology) × (lent : List ℕ) × (x ≡ networkFor q lent)

@@ -40,10 +40,10 @@ bufferQuestions logs records = (leb logSize logs && leb recordsSize records, 10)
 abbrev pub runQuestions : Config → ℕ → ℕ → List (Bool × ℕ)
 runQuestions c logs records = configQuestions c ++ bufferQuestions logs records
 
--- The refusal of a configuration: the questions of its network, then 5 to 9.
+-- The refusal where no buffer is asked for: the questions of the network, then 5 to 9.
 unfoldable pub refusalFor : RowsOrTopology → Config → Option ℕ
 refusalFor q c = firstNo (networkQuestions q ++ configQuestions c)
 
--- The refusal of a run: the questions of its network, then 5 to 10.
+-- The refusal of a run: the questions of the network, then 5 to 10.
 unfoldable pub runRefusalFor : RowsOrTopology → Config → ℕ → ℕ → Option ℕ
 runRefusalFor q c logs records = firstNo (networkQuestions q ++ runQuestions c logs records)

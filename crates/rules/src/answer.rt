@@ -9,7 +9,7 @@ pub enum Answer {
 }
 
 // One round: its packet, and the set of the nodes that took part.
-pub struct RoundView {
+pub struct SeenRound {
     pub packet: Packet,
     pub part: u64,
 }

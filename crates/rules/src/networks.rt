@@ -7,7 +7,7 @@ use network::graph::widen;
 use network::topology::Built;
 use network::topology::build_graph;
 ghost use mathlib.Core.Path.{_≡_};
-ghost use Rattle.rules.specs.Networks.{ofRows, ofTopology, refusedNetwork, networkFor};
+ghost use Rattle.rules.specs.Networks.{ofRows, ofTopology, network, networkFor};
 
 // A number of nodes and a diameter, or the number of the question that was answered "no".
 pub enum Extent {
@@ -15,54 +15,41 @@ pub enum Extent {
     Refused(u64),
 }
 
-// A network as a run takes it: the rows of its graph as sets of 64 bits. A refusal has no link at all.
-pub struct Network {
-    pub extent: Extent,
-    pub rows: [u64; MAX_NODES],
-}
-
-fn refused(question: u64) -> Network
-    ensures { λ r. ⌜ r ≡ refusedNetwork question ⌝ }
-{
-    Network {
-        extent: Extent::Refused(question),
-        rows: [0; MAX_NODES],
-    }
-}
-
-// The network of n nodes with these rows.
-pub fn network_of_rows(rows: &[u32], n: u64) -> Network
-    ensures { λ r. ⌜ r ≡ networkFor (ofRows (now (rows .entry)) n) ⌝ }
+// The network of n nodes with these rows: its graph goes into `graph`, as sets of 64 bits. A refusal writes nothing.
+pub fn network_of_rows(rows: &[u32], n: u64, graph: &mut [u64; MAX_NODES]) -> Extent
+    ensures { λ r. ⌜ network r (now (graph .exit)) ≡ networkFor (ofRows (now (rows .entry)) n) (now (graph .entry)) ⌝ }
 {
     let measured = measure(rows, n);
     match measured {
-        Measured::Refused(k) => refused(k),
+        Measured::Refused(k) => Extent::Refused(k),
         Measured::Links(d) => {
             let nodes = n as usize;
-            Network {
-                extent: Extent::Of(nodes, d),
-                rows: widen(rows, nodes),
-            }
+            let wide = widen(rows, nodes);
+            *graph = wide;
+            Extent::Of(nodes, d)
         }
     }
 }
 
-// The network of the topology with that number. `first` is the number of nodes, for a grid of rows, and
+// The network of the topology with that number, likewise. `first` is the number of nodes, for a grid of rows, and
 // `second` a grid's columns or a tree's branching factor.
-pub fn network_of_topology(topology: u64, first: u64, second: u64) -> Network
-    ensures { λ r. ⌜ r ≡ networkFor (ofTopology topology first second) ⌝ }
+pub fn network_of_topology(
+    topology: u64,
+    first: u64,
+    second: u64,
+    graph: &mut [u64; MAX_NODES],
+) -> Extent
+    ensures { λ r. ⌜ network r (now (graph .exit)) ≡ networkFor (ofTopology topology first second) (now (graph .entry)) ⌝ }
 {
     let built = build_graph(topology, first, second);
     let answer = built.answer;
     match answer {
-        Built::Refused(k) => refused(k),
+        Built::Refused(k) => Extent::Refused(k),
         Built::Nodes(n) => {
-            let graph = built.rows;
-            let d = diameter_of(&graph, n);
-            Network {
-                extent: Extent::Of(n, d),
-                rows: graph,
-            }
+            let rows = built.rows;
+            *graph = rows;
+            let d = diameter_of(graph, n);
+            Extent::Of(n, d)
         }
     }
 }

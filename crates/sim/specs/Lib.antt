@@ -1,2 +1,2 @@
--- What the buffers of a run need.
+-- What the buffers of a run need, and its summary.
 pub mod Filling

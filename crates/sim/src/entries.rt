@@ -5,16 +5,17 @@ use config::limits::MAX_NODES;
 use rounds::run::Plan;
 use rules::answer::Answer;
 use rules::networks::Extent;
-use rules::networks::Network;
 use rules::networks::network_of_rows;
 use rules::networks::network_of_topology;
 use rules::questions::Refusal;
 use rules::questions::run_refusal;
+ghost use Prim.Native.Nat.{ℕ};
 ghost use mathlib.Core.Path.{_≡_};
+ghost use mathlib.Core.List.{List};
 ghost use Rattle.rules.specs.Accepted.{MeasuredGraph};
 ghost use Rattle.rules.specs.Answers.{outcome};
 ghost use Rattle.rules.specs.Entries.{runOfGraph, outcomeFor, runOfRows, runOfTopology};
-ghost use Rattle.rules.specs.Networks.{RowsOrTopology, networkFor, AskedFor};
+ghost use Rattle.rules.specs.Networks.{RowsOrTopology, network, networkFor, AskedFor};
 
 // A run of a graph that its own questions let pass: questions 5 to 10, then the run.
 fn run_graph(
@@ -46,25 +47,24 @@ fn run_graph(
     }
 }
 
-// A run of a network that was asked for.
+// A run of the network that was asked for.
 fn run_network(
-    network: Network,
+    extent: Extent,
+    graph: &[u64; MAX_NODES],
     config: Config,
     logs: &mut [u8],
     records: &mut [u64],
     snapshots: &mut [u64],
 ) -> Answer
-    requires { ⌜ AskedFor network ⌝ }
-    ensures { λ r. ⌜ ((q : RowsOrTopology) → network ≡ networkFor q →
+    requires { ⌜ AskedFor (network extent (now graph)) ⌝ }
+    ensures { λ r. ⌜ ((q : RowsOrTopology) (lent : List ℕ) → network extent (now (graph .entry)) ≡ networkFor q lent →
         outcome r (now (logs .exit)) (now (records .exit)) (now (snapshots .exit))
         ≡ outcomeFor q config (now (logs .entry)) (now (records .entry)) (now (snapshots .entry))) ⌝ }
 {
-    let extent = network.extent;
     match extent {
         Extent::Refused(k) => Answer::Refused(k),
         Extent::Of(nodes, diameter) => {
-            let graph = network.rows;
-            run_graph(&graph, nodes, diameter, config, logs, records, snapshots)
+            run_graph(graph, nodes, diameter, config, logs, records, snapshots)
         }
     }
 }
@@ -82,8 +82,9 @@ pub fn run_rows(
         outcome r (now (logs .exit)) (now (records .exit)) (now (snapshots .exit))
         ≡ runOfRows (now (rows .entry)) n config (now (logs .entry)) (now (records .entry)) (now (snapshots .entry)) ⌝ }
 {
-    let network = network_of_rows(rows, n);
-    run_network(network, config, logs, records, snapshots)
+    let mut graph = [0u64; MAX_NODES];
+    let extent = network_of_rows(rows, n, &mut graph);
+    run_network(extent, &graph, config, logs, records, snapshots)
 }
 
 // A run of the topology with that number. `first` is the number of nodes, for a grid of rows, and
@@ -101,6 +102,7 @@ pub fn run_topology(
         outcome r (now (logs .exit)) (now (records .exit)) (now (snapshots .exit))
         ≡ runOfTopology topology first second config (now (logs .entry)) (now (records .entry)) (now (snapshots .entry)) ⌝ }
 {
-    let network = network_of_topology(topology, first, second);
-    run_network(network, config, logs, records, snapshots)
+    let mut graph = [0u64; MAX_NODES];
+    let extent = network_of_topology(topology, first, second, &mut graph);
+    run_network(extent, &graph, config, logs, records, snapshots)
 }

@@ -1,8 +1,5 @@
-use Prim.Native.Nat.{ℕ}
-use mathlib.Core.Path.{ap}
 use borrow.Author.Needs.{needs}
 use denote.Ref.{now}
-use lib.ListN.{replicate}
 use Rattle.rounds.specs.Going.{planned}
 use Rattle.rounds.proofs.Beginning.{table-few, table-some, table-all}
 use Rattle.preview.proofs.Seen.{too-late}
@@ -17,7 +14,7 @@ preview-over-requires c κs =
     let t = c .before in
     let e = t .before .before in
     let s = e .before .before in
-    (s .pre, e .if1 .left, ap (λ (m : ℕ). replicate {A = ℕ} m 0) (table-few (s .args .plan .nodes) (t .if2 .taken)))
+    (s .pre, e .if1 .left, table-few (s .args .plan .nodes) (t .if2 .taken))
 
 preview-over-requires-2 : tie.Need-preview-over-requires-2
 preview-over-requires-2 c κs =
@@ -25,7 +22,7 @@ preview-over-requires-2 c κs =
     let f = t .before .before in
     let e = f .before .before in
     let s = e .before .before in
-    (s .pre, e .if1 .left, ap (λ (m : ℕ). replicate {A = ℕ} m 0) (table-some (s .args .plan .nodes) (f .if2 .left) (t .if3 .taken)))
+    (s .pre, e .if1 .left, table-some (s .args .plan .nodes) (f .if2 .left) (t .if3 .taken))
 
 preview-over-requires-3 : tie.Need-preview-over-requires-3
 preview-over-requires-3 c κs =
@@ -33,7 +30,7 @@ preview-over-requires-3 c κs =
     let f = t .before .before in
     let e = f .before .before in
     let s = e .before .before in
-    (s .pre, e .if1 .left, ap (λ (m : ℕ). replicate {A = ℕ} m 0) (table-all (s .args .plan .nodes) (t .if3 .left)))
+    (s .pre, e .if1 .left, table-all (s .args .plan .nodes) (t .if3 .left))
 
 pub preview-graph-spec : {M : Type 1} → statement M
 preview-graph-spec =

@@ -1,56 +1,62 @@
+use Prim.Native.Nat.{ℕ}
 use mathlib.Core.Path.{_≡_, sym, ap, _∙_}
+use mathlib.Core.List.{List}
 use mathlib.Core.Option.{none}
 use borrow.Author.Needs.{needs}
+use denote.Ref.{now}
 use Rattle.network.specs.Questions.{firstNo}
 use Rattle.rules.specs.Questions.{configQuestions}
+use Rattle.rules.specs.Run.{Given}
 use Rattle.rules.specs.Answers.{refusalOf}
-use Rattle.rules.specs.Networks.{RowsOrTopology, networkFor}
+use Rattle.rules.specs.Networks.{RowsOrTopology, network, networkFor}
 use Rattle.rules.proofs.Admitted.{accepts}
-use Rattle.rules.proofs.Found.{Found, network-refused, network-found}
-use Rattle.preview.proofs.Seen.{network-no, config-no, all-pass}
+use Rattle.rules.proofs.Found.{Found, network-refused, network-found, network-no, network-yes}
+use Rattle.preview.specs.Preview.{previewIn}
+use Rattle.preview.proofs.Seen.{refused, unrefused}
 use Rattle.preview.proofs.preview_network.Statement.{statement}
 use Rattle.preview.proofs.preview_network.Tie as tie
 
 -- its questions let it pass
-found : (c : tie.After-extent2) (q : RowsOrTopology) → c .before .before .args .network ≡ networkFor q →
-    Found q (c .before .before .args .network .rows) (c .extent2 .given .0 .0) (c .extent2 .given .0 .1 .0)
-found c q e = network-found q e _ _ (c .extent2 .given .1)
+found : (c : tie.After-extent2) (q : RowsOrTopology) (lent : List ℕ) → let a = c .before .before .args in network (a .extent) (now (a .graph)) ≡ networkFor q lent →
+    Found q (now (a .graph)) (c .extent2 .given .0 .0) (c .extent2 .given .0 .1 .0)
+found c q lent e = network-found q lent e _ _ (c .extent2 .given .1)
 
--- where the configuration was asked
-abbrev asked : tie.After-graph2 → tie.After-config-refusal
-asked c = c .before .before .before .before
-
+-- from where the configuration's questions were put to where the network's let it pass
 abbrev passed : tie.After-config-refusal → tie.After-extent2
 passed c = c .before .before
 
 -- the configuration's questions pass
-pass : (c : tie.After-graph2) → firstNo (configQuestions (passed (asked c) .before .before .args .config)) ≡ none
-pass c = sym (asked c .config-refusal .ensures) ∙ ap refusalOf (c .before .before .enum-told .given .1)
+pass : (c : tie.After-enum-told) → firstNo (configQuestions (passed (c .before .before) .before .before .args .config)) ≡ none
+pass c = sym (c .before .before .config-refusal .ensures) ∙ ap refusalOf (c .enum-told .given .1)
 
 preview-graph-requires : tie.Need-preview-graph-requires
 preview-graph-requires c κs =
-    let m = passed (asked c) in
+    let m = passed (c .before .before) in
     let s = m .before .before in
-    accepts (s .args .config) (found m (s .pre .0) (s .pre .1) .measured) (pass c)
+    accepts (s .args .config) (found m (s .pre .0) (s .pre .1) (s .pre .2) .measured) (pass c)
 
 returns : tie.Need-returns
-returns c q e =
+returns c q lent e =
     let a = c .before .before .before .args in
-    network-no q (a .config) (a .k) _ (network-refused q e _ (c .before .extent .given .1))
+    refused q (a .config) (a .k) _ (network-no q (a .config) _ (network-refused q lent e _ (c .before .extent .given .1)))
 
 returns-2 : tie.Need-returns-2
-returns-2 c q e =
+returns-2 c q lent e =
     let at = c .before .before .before in
     let m = passed at in
     let a = m .before .before .args in
-    config-no q (a .config) (a .k) (found m q e) _ (sym (at .config-refusal .ensures) ∙ ap refusalOf (c .before .refusal .given .1))
+    refused q (a .config) (a .k) _
+    (network-yes q (a .config) (found m q lent e .passes) ∙ sym (at .config-refusal .ensures) ∙ ap refusalOf (c .before .refusal .given .1))
 
 returns-3 : tie.Need-returns-3
-returns-3 c q e =
-    let m = passed (asked (c .before)) in
+returns-3 c q lent e =
+    let told = c .before in
+    let m = passed (told .before .before) in
     let a = m .before .before .args in
-    let f = found m q e in
-    c .preview-graph .ensures ∙ all-pass q (a .config) (a .k) f (f .given (a .config)) (pass (c .before))
+    let f = found m q lent e in
+    c .preview-graph .ensures
+    ∙ ap (λ (g : Given). previewIn g (a .k)) (f .given (a .config))
+    ∙ unrefused q (a .config) (a .k) (network-yes q (a .config) (f .passes) ∙ pass told)
 
 pub preview-network-spec : {M : Type 1} → statement M
 preview-network-spec =

@@ -6,9 +6,9 @@ use Rattle.preview.proofs.preview_rows.Tie as tie
 
 returns : tie.Need-returns
 returns c =
-    let asked = c .before in
-    let a = asked .before .before .args in
-    c .preview-network .ensures (ofRows (now (a .rows)) (a .n)) (asked .network-of-rows .ensures)
+    let found = c .before .before in
+    let a = found .before .before .before .args in
+    c .preview-network .ensures (ofRows (now (a .rows)) (a .n)) _ (found .network-of-rows .ensures)
 
 pub preview-rows-spec : {M : Type 1} → statement M
 preview-rows-spec = tie.close (tie.spec (λ c κs. search needs) (λ c κs. search needs) returns)

@@ -5,8 +5,9 @@ use Rattle.preview.proofs.preview_topology.Tie as tie
 
 returns : tie.Need-returns
 returns c =
-    let a = c .before .before .args in
-    c .preview-network .ensures (ofTopology (a .topology) (a .first) (a .second)) (c .before .network-of-topology .ensures)
+    let found = c .before .before in
+    let a = found .before .before .args in
+    c .preview-network .ensures (ofTopology (a .topology) (a .first) (a .second)) _ (found .network-of-topology .ensures)
 
 pub preview-topology-spec : {M : Type 1} → statement M
 preview-topology-spec = tie.close (tie.spec (λ c κs. search needs) (λ c κs. search needs) returns)

@@ -1,5 +1,5 @@
 use mathlib.Core.Path.{refl, ap, _∙_}
-use mathlib.Core.List.{List, [], _∷_, _++_}
+use mathlib.Core.List.{_∷_, _++_}
 use native.Mathlib.Omega.{arith}
 use borrow.Author.Needs.{needs}
 use denote.Ref.{now}
@@ -16,14 +16,14 @@ start c = c .before .before .before .before .before .before .before
 
 returns : tie.Need-returns
 returns c =
-    let asked = c .before in
-    let again = asked .before in
+    let resent = c .before in
+    let again = resent .before in
     let proposed = again .before in
     let accepted = proposed .before in
     let wanted = accepted .before in
     let a = start c .args in
     let p = a .p in
-    let carried = c .of-data2 .ensures ∙ ap (λ (x : Data). termNumbers (dataTerm x)) (asked .piggyback-data .ensures) in
+    let carried = c .of-data2 .ensures ∙ ap (λ (x : Data). termNumbers (dataTerm x)) (resent .piggyback-data .ensures) in
     λ i.
     sets (now (a .out)) 0
     (p .sender .0 ∷ p .«current_term» .0 ∷ p .«flags_bitmap»

@@ -27,21 +27,17 @@ widen-requires c κs =
 
 returns : tie.Need-returns
 returns c =
-    let m = c .before .before .before .before in
+    let m = c .before .before .before in
     let a = start m .args in
-    c .refused .ensures
-    ∙ is-refused (ofRows (now (a .rows)) (a .n)) _
-    (measured-refused (now (a .rows)) (a .n) _ (sym (c .before .before .measured .given .1) ∙ m .measure .ensures))
+    is-refused (ofRows (now (a .rows)) (a .n)) (now (a .graph)) _
+    (measured-refused (now (a .rows)) (a .n) _ (sym (c .before .measured .given .1) ∙ m .measure .ensures))
 
 returns-2 : tie.Need-returns-2
 returns-2 c =
     let m = c .before .before in
     let a = start (m .before .before) .args in
     let l = links m in
-    is-found (ofRows (now (a .rows)) (a .n)) (l .0) (c .widen .ensures) refl (wide-diameter (now (a .rows)) (a .n) _ (l .0) (l .1))
+    is-found (ofRows (now (a .rows)) (a .n)) (now (a .graph)) (l .0) (c .widen .ensures) refl (wide-diameter (now (a .rows)) (a .n) _ (l .0) (l .1))
 
 pub network-of-rows-spec : {M : Type 1} → statement M
-network-of-rows-spec =
-    tie.close
-    (tie.spec
-    (λ c κs. search needs) (λ c. search needs) (λ c κs. search needs) (λ c. search needs) widen-requires returns returns-2)
+network-of-rows-spec = tie.close (tie.spec (λ c κs. search needs) (λ c. search needs) (λ c. search needs) widen-requires returns returns-2)

@@ -1,7 +1,7 @@
-use mathlib.Core.Path.{sym, ap, _∙_}
-use mathlib.Core.List.{List}
+use mathlib.Core.Path.{ap, _∙_}
 use Prim.Native.Nat.{ℕ}
 use borrow.Author.Needs.{needs}
+use denote.Ref.{now}
 use Rattle.network.specs.Graph.{widened}
 use Rattle.network.specs.Distance.{diameter}
 use Rattle.network.specs.Topology.{topologyRows, topologyOf}
@@ -21,11 +21,10 @@ diameter-of-requires c κs = let b = built (c .before .before .before) in (b .wi
 
 returns : tie.Need-returns
 returns c =
-    let b = c .before .before .before .before in
+    let b = c .before .before .before in
     let a = b .before .args in
-    c .refused .ensures
-    ∙ is-refused (ofTopology (a .topology) (a .first) (a .second)) _
-    (graph-refused (a .topology) (a .first) (a .second) _ (b .build-graph .ensures) _ (c .before .before .answer .given .1))
+    is-refused (ofTopology (a .topology) (a .first) (a .second)) (now (a .graph)) _
+    (graph-refused (a .topology) (a .first) (a .second) _ (b .build-graph .ensures) _ (c .before .answer .given .1))
 
 returns-2 : tie.Need-returns-2
 returns-2 c =
@@ -33,11 +32,8 @@ returns-2 c =
     let a = m .before .before .before .args in
     let b = built m in
     let is = b .is ∙ ap (λ (n : ℕ). widened (topologyRows (topologyOf (a .topology) (a .second)) n) n) (b .nodes) in
-    is-found (ofTopology (a .topology) (a .first) (a .second)) (b .passes) is (b .nodes)
+    is-found (ofTopology (a .topology) (a .first) (a .second)) (now (a .graph)) (b .passes) is (b .nodes)
     (c .diameter-of .ensures ∙ (λ i. diameter (is i) (b .nodes i)))
 
 pub network-of-topology-spec : {M : Type 1} → statement M
-network-of-topology-spec =
-    tie.close
-    (tie.spec
-    (λ c κs. search needs) (λ c. search needs) (λ c κs. search needs) (λ c. search needs) diameter-of-requires returns returns-2)
+network-of-topology-spec = tie.close (tie.spec (λ c κs. search needs) (λ c. search needs) (λ c. search needs) diameter-of-requires returns returns-2)

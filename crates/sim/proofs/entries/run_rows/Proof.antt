@@ -6,10 +6,10 @@ use Rattle.sim.proofs.entries.run_rows.Tie as tie
 
 returns : tie.Need-returns
 returns c =
-    let r = c .before .before .before .before .before .before in
-    let asked = r .before .before .before .before in
-    let a = asked .before .before .before .before .before .args in
-    r .run-network .ensures (ofRows (now (a .rows)) (a .n)) (asked .network-of-rows .ensures)
+    let ran = c .before .before .before .before .before .before in
+    let found = ran .before .before .before .before .before in
+    let a = found .before .before .before .before .before .before .args in
+    ran .run-network .ensures (ofRows (now (a .rows)) (a .n)) _ (found .network-of-rows .ensures)
 
 pub run-rows-spec : {M : Type 1} → statement M
 run-rows-spec =

@@ -5,10 +5,10 @@ use Rattle.sim.proofs.entries.run_topology.Tie as tie
 
 returns : tie.Need-returns
 returns c =
-    let r = c .before .before .before .before .before .before in
-    let asked = r .before .before .before .before in
-    let a = asked .before .before .before .before .args in
-    r .run-network .ensures (ofTopology (a .topology) (a .first) (a .second)) (asked .network-of-topology .ensures)
+    let ran = c .before .before .before .before .before .before in
+    let found = ran .before .before .before .before .before in
+    let a = found .before .before .before .before .before .args in
+    ran .run-network .ensures (ofTopology (a .topology) (a .first) (a .second)) _ (found .network-of-topology .ensures)
 
 pub run-topology-spec : {M : Type 1} → statement M
 run-topology-spec =
