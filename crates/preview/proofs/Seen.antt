@@ -1,7 +1,6 @@
 -- Round k of a run, from the rounds that were played; and every run seen ahead. Assumes nothing.
-use Prim.Native.Nat.{ℕ, zero, suc, _+_, _≤_, _<_}
+use Prim.Native.Nat.{ℕ, _+_, _-_, _≤_, _<_}
 use mathlib.Core.Path.{_≡_, refl, sym, ap, _∙_}
-use mathlib.Core.List.{List, [], _∷_}
 use mathlib.Core.Logic.{⊎-elim}
 use mathlib.Core.Option.{Option, none, some}
 use native.Mathlib.Omega.{arith}
@@ -9,7 +8,6 @@ use lib.ListN.{length, getElem?}
 use Rattle.config.specs.Limits.{mostRounds}
 use Rattle.config.specs.declared.Config.{Config}
 use Rattle.metrics.specs.declared.summary.Summary.{Summary}
-use Rattle.rules.specs.declared.answer.SeenRound.{SeenRound}
 use Rattle.rules.specs.Networks.{RowsOrTopology, networkQuestions}
 use Rattle.rules.specs.Questions.{configQuestions, bufferQuestions, runQuestions, refusalFor, runRefusalFor}
 use Rattle.rules.specs.Run.{Given, Past, runFor, run}
@@ -19,46 +17,32 @@ use Rattle.rules.proofs.Admitted.{admitted, refused-so}
 use Rattle.rules.proofs.FirstNo.{either-no, buffer-no}
 use Rattle.rules.proofs.FirstRounds.{elem-beyond, elem-within, first-rounds, few-rounds, made-of}
 use Rattle.rules.proofs.Found.{network-no, network-yes}
+use Rattle.rounds.specs.declared.run.LastRound.{LastRound}
 use Rattle.rounds.specs.declared.run.LastRound.the-variants.{None, Of}
 use Rattle.rounds.specs.Going.{lastRound}
+use Rattle.preview.specs.declared.Preview.{Preview}
 use Rattle.preview.specs.declared.Preview.the-variants.{Seen, Refused}
 use Rattle.preview.specs.Preview.{noSuchRound, previewAs, previewIn, previewUnless, previewFor, RunsSeenAhead, RefusalsSeenAhead}
 
--- ---- the last of the rounds that were played
+-- ---- from the rounds that were played
 
--- no last round, no round
-none-played : (rounds : List Past) → lastRound rounds ≡ None → length rounds ≡ 0
-none-played [] e = refl
-none-played (p ∷ []) e = absurd (let z : _≡_ {A = ℕ} 0 1 = cc in omega arith)
-none-played (p ∷ q ∷ rounds) e = absurd (let z = none-played (q ∷ rounds) e in omega (arith, z))
+-- the last of k + 1 rounds is round k
+abbrev pub ofLast : LastRound → Preview
+ofLast None = Refused noSuchRound
+ofLast (Of seen) = Seen seen
 
--- the last of k + 1 is round k
-last-at : (rounds : List Past) (k : ℕ) (seen : SeenRound) → length rounds ≡ suc k → lastRound rounds ≡ Of seen → previewAs (getElem? rounds k) ≡ Seen seen
-last-at [] k seen e l = absurd (omega (arith, e))
-last-at (p ∷ []) zero seen e l = let v : seenRound p ≡ seen = cc in ap Seen v
-last-at (p ∷ []) (suc k) seen e l = absurd (let z : _≡_ {A = ℕ} 1 (suc (suc k)) = e in omega (arith, z))
-last-at (p ∷ q ∷ rounds) zero seen e l = absurd (omega (arith, e))
-last-at (p ∷ q ∷ rounds) (suc k) seen e l = last-at (q ∷ rounds) k seen (omega (arith, e)) l
+as-last : (o : Option Past) → ofLast (lastRound o) ≡ previewAs o
+as-last none = refl
+as-last (some p) = refl
 
--- Round k, from a run of at most k + 1 rounds.
-module _ (g : Given) (k : ℕ) (early : k < mostRounds (g .proposals)) where
-  from-played : previewIn g k ≡ previewAs (getElem? (runFor g (k + 1) .running .rounds) k)
-  unfolding previewIn
-  from-played = ap previewAs (sym (first-rounds g (k + 1) k (omega arith) early))
-
-  -- it had fewer rounds
-  pub too-few : length (runFor g (k + 1) .running .rounds) ≤ k → Refused noSuchRound ≡ previewIn g k
-  too-few h = sym (from-played ∙ ap previewAs (elem-beyond (runFor g (k + 1) .running .rounds) k h))
-
-  pub none-at-all : None ≡ lastRound (runFor g (k + 1) .running .rounds) → Refused noSuchRound ≡ previewIn g k
-  none-at-all e = too-few (omega (arith, none-played (runFor g (k + 1) .running .rounds) (sym e)))
-
-  -- round k was its last
-  pub is-last : (seen : SeenRound) → Of seen ≡ lastRound (runFor g (k + 1) .running .rounds) → k < length (runFor g (k + 1) .running .rounds)
-      → Seen seen ≡ previewIn g k
-  is-last seen e h =
-      let rounds = runFor g (k + 1) .running .rounds in
-      sym (from-played ∙ last-at rounds k seen (omega (arith, h, few-rounds g (k + 1))) (sym e))
+pub from-last : (g : Given) (k : ℕ) → k < mostRounds (g .proposals) → (last : LastRound)
+    → last ≡ lastRound (getElem? (runFor g (k + 1) .running .rounds) (k + 1 - 1)) → ofLast last ≡ previewIn g k
+unfolding previewIn
+from-last g k early last e =
+    let rounds = runFor g (k + 1) .running .rounds in
+    let index : k + 1 - 1 ≡ k = omega arith in
+    ap ofLast e ∙ as-last (getElem? rounds (k + 1 - 1)) ∙ ap (λ (i : ℕ). previewAs (getElem? rounds i)) index
+    ∙ ap previewAs (first-rounds g (k + 1) k (omega arith) early)
 
 -- no run has so many rounds
 pub too-late : (g : Given) (k : ℕ) → mostRounds (g .proposals) ≤ k → Refused noSuchRound ≡ previewIn g k

@@ -49,12 +49,7 @@ fn preview_over(graph: &[u64; MAX_NODES], plan: Plan, k: u64, states: &mut [u64]
     let last = stopped.last;
     match last {
         LastRound::None => Preview::Refused(NO_SUCH_ROUND),
-        LastRound::Of(seen) => {
-            if stopped.rounds < most {
-                return Preview::Refused(NO_SUCH_ROUND);
-            }
-            Preview::Seen(seen)
-        }
+        LastRound::Of(seen) => Preview::Seen(seen),
     }
 }
 

@@ -2,13 +2,14 @@
 use Prim.Native.Nat.{ℕ, suc, _+_, _-_, _*_, _≤_, _<_}
 use mathlib.Core.Path.{_≡_, refl, sym, ap, subst⁻¹, _∙_}
 use mathlib.Core.Bool.{Bool, false, cond, _&&_}
-use mathlib.Core.List.{List, [], _∷_, _++_}
+use mathlib.Core.List.{List}
+use mathlib.Core.Logic.{⊎-elim}
 use native.Mathlib.Nat.{le-refl}
 use native.Mathlib.Numerals.{add-one}
 use native.Mathlib.Omega.{arith}
 use lib.Dec.{leb, eqb, ltb}
-use lib.ListN.{length, replicate}
-use borrow.Author.Tests.{le-leb, lt-leb, eq-eqb, ne-eqb}
+use lib.ListN.{length, replicate, getElem?}
+use borrow.Author.Tests.{le-leb, lt-leb, eqb-true, eq-eqb, ne-eqb}
 use Rattle.config.specs.Limits.{maxTerms, extraRounds}
 use Rattle.random.specs.Reception.{Source}
 use Rattle.random.proofs.Stream.{source-begins}
@@ -18,15 +19,15 @@ use Rattle.protocol.specs.Paxos.{State}
 use Rattle.protocol.proofs.Kept.{kept-mono}
 use Rattle.pipeline.specs.Round.{Shared, shortestLog}
 use Rattle.pipeline.specs.View.{AllKept, Sharing, tableSize, statesOf, recordsOf, recordAt, sharedOf}
-use Rattle.rules.specs.Answers.{seenRound}
-use Rattle.rules.specs.Run.{Given, Past, Running, Ended, begin, pastIn, runRound, complete, endAfter, roundsFrom, runFor}
+use Rattle.rules.specs.Run.{Given, Running, Ended, begin, runRound, complete, endAfter, roundsFrom, runFor}
 use Rattle.rules.proofs.Coverage.{held-begin, held-round}
 use Rattle.rules.proofs.Ends.{from-limit, from-next, from-end, shortest-new}
+use Rattle.network.proofs.Sets.{two}
+use Rattle.rules.proofs.FirstRounds.{elem-beyond, newest}
 use Rattle.rules.proofs.Rounds.{rounds-more}
 use Rattle.rounds.specs.declared.run.Plan.{Plan}
 use Rattle.rounds.specs.declared.run.Run.{Run}
 use Rattle.rounds.specs.declared.run.Played.{Played}
-use Rattle.rounds.specs.declared.run.LastRound.{LastRound}
 use Rattle.rounds.specs.declared.run.LastRound.the-variants.{None, Of}
 use Rattle.rounds.specs.declared.run.Stopped.{Stopped}
 use Rattle.rounds.specs.declared.survey.Surveyed.{Surveyed}
@@ -50,6 +51,10 @@ module _ {p : Plan} {x : Run} {w : Workspace} {b₀ : List ℕ} {s : Running} (u
 
 pub kept-all : {heard : ℕ → Bool} {p : Plan} {k : ℕ} {x : Run} {w : Workspace} → Steady heard p k x w → AllKept maxTerms (p .nodes) (w .states)
 kept-all u = record { room = u .sharing .kept .room; each = λ j h. kept-mono (u .sharing .few) (le-refl maxTerms) (u .sharing .kept .each j h) }
+
+-- the table of states keeps its size
+pub same-table : {heard : ℕ → Bool} {p : Plan} {k k' : ℕ} {x x' : Run} {w w' : Workspace} → Steady heard p k x w → Steady heard p k' x' w' → length (w .states) ≡ length (w' .states)
+same-table u v = u .sharing .kept .room ∙ sym (v .sharing .kept .room)
 
 -- the progress is what snapshots show, and no more
 abbrev pub showing : ℕ → Run → Run
@@ -75,7 +80,7 @@ module _ {p : Plan} {x : Run} {w : Workspace} {m : ℕ} where
 -- ---- before the first round
 
 pub underway-new : (graph : List ℕ) (p : Plan) (most : ℕ) (x : Run) (w : Workspace) → CanGo graph p most w → NewRun (p .nodes) x
-    → Underway graph p most 0 x None w (w .snapshots)
+    → Underway graph p most 0 x w (w .snapshots)
 unfolding runFor
 underway-new graph p most x w can new =
     let g : Given = planned graph p in
@@ -107,55 +112,47 @@ underway-new graph p most x w can new =
         progress = new .progress ∙ sym (shortest-new (p .nodes));
       };
       rest = ap (λ (m : ℕ). roundsFrom g m 0 (begin g)) all;
-      last-is = refl;
       in-time = omega arith;
     }
-
--- ---- the last round
-
-last-snoc : (rounds : List Past) (p : Past) → lastRound (rounds ++ (p ∷ [])) ≡ Of (seenRound p)
-last-snoc [] p = refl
-last-snoc (q ∷ []) p = refl
-last-snoc (q ∷ r ∷ rounds) p = last-snoc (r ∷ rounds) p
-
-last-next : (g : Given) (k : ℕ) (s : Running) → lastRound (runRound g k s .rounds) ≡ Of (seenRound (pastIn g k s))
-unfolding runRound
-last-next g k s = last-snoc (s .rounds) (pastIn g k s)
 
 -- ---- the ends
 
 module _ {graph : List ℕ} {p : Plan} {most : ℕ} {b₀ : List ℕ} where
   -- the run of the definitions came to e, and so did the code
   goes-as : {r : Stopped} {w : Workspace} (e : Ended) → runFor (planned graph p) most ≡ e → Shows p (r .run) w b₀ (e .running) → Steady (planned graph p .heard) p (r .rounds) (r .run) w
-      → length (e .running .rounds) ≡ r .rounds → r .last ≡ lastRound (e .running .rounds) → r .ended ≡ e .ended → r .rounds ≤ most → Goes graph p most r b₀ w
+      → length (e .running .rounds) ≡ r .rounds → r .last ≡ lastRound (getElem? (e .running .rounds) (most - 1)) → r .ended ≡ e .ended → r .rounds ≤ most → Goes graph p most r b₀ w
   goes-as {r} {w} e q shows steady rounds last ended few =
       record {
         shows = subst⁻¹ (λ (y : Ended). Shows p (r .run) w b₀ (y .running)) q shows;
         steady = steady;
         rounds = ap (λ (y : Ended). length (y .running .rounds)) q ∙ rounds;
-        last = last ∙ sym (ap (λ (y : Ended). lastRound (y .running .rounds)) q);
+        last = last ∙ sym (ap (λ (y : Ended). lastRound (getElem? (y .running .rounds) (most - 1))) q);
         ended = ended ∙ sym (ap (λ (y : Ended). y .ended) q);
         few = few;
       }
 
-  module _ {k : ℕ} {x : Run} {last : LastRound} {w : Workspace} (u : Underway graph p most k x last w b₀) where
+  module _ {k : ℕ} {x : Run} {w : Workspace} (u : Underway graph p most k x w b₀) where
+    -- a round that was not run
+    unrun : (r : Running) (m : ℕ) → length (r .rounds) ≡ m → m ≤ most - 1 → None ≡ lastRound (getElem? (r .rounds) (most - 1))
+    unrun r m e h = sym (ap lastRound (elem-beyond (r .rounds) (most - 1) (omega (arith, e))))
+
     -- no round is left
-    pub used-up : most ≤ k → Goes graph p most (record { run = x; rounds = k; last = last; ended = 0 }) b₀ w
+    pub used-up : most ≤ k → Goes graph p most (record { run = x; rounds = k; last = None; ended = 0 }) b₀ w
     unfolding roundsFrom
     used-up h =
         let none : most - k ≡ 0 = omega arith in
         goes-as (record { running = u .here; ended = 0 }) (sym (u .rest) ∙ ap (λ (m : ℕ). roundsFrom (planned graph p) m k (u .here)) none)
-        (u .going .shows) (u .going .steady) (u .going .rounds) (u .last-is) refl (u .in-time)
+        (u .going .shows) (u .going .steady) (u .going .rounds) (unrun (u .here) k (u .going .rounds) (u .in-time)) refl (omega (arith, u .in-time))
 
     module _ (more : k < most) where
       from-here : roundsFrom (planned graph p) (suc (most - (k + 1))) k (u .here) ≡ runFor (planned graph p) most
       from-here = let left : most - k ≡ suc (most - (k + 1)) = omega arith in ap (λ (m : ℕ). roundsFrom (planned graph p) m k (u .here)) (sym left) ∙ u .rest
 
-      pub at-limit : p .config .«max_slots» ≤ x .flood .slot .0 → Goes graph p most (record { run = x; rounds = k; last = last; ended = 4 }) b₀ w
+      pub at-limit : p .config .«max_slots» ≤ x .flood .slot .0 → Goes graph p most (record { run = x; rounds = k; last = None; ended = 4 }) b₀ w
       at-limit h =
           goes-as (record { running = u .here; ended = 4 })
           (sym from-here ∙ from-limit (planned graph p) (most - (k + 1)) k (u .here) (le-leb (planned graph p .limit) (u .here .standing .slot) (omega (arith, u .going .shows .standing .slot))))
-          (u .going .shows) (u .going .steady) (u .going .rounds) (u .last-is) refl (u .in-time)
+          (u .going .shows) (u .going .steady) (u .going .rounds) (unrun (u .here) k (u .going .rounds) (u .in-time)) refl (omega (arith, u .in-time))
 
       -- after one round more, whose end is told by what the survey of the logs saw
       module _ (below : x .flood .slot .0 < p .config .«max_slots») {r : Played} {w' : Workspace} (pl : Plays graph p k x w r w')
@@ -172,8 +169,11 @@ module _ {graph : List ℕ} {p : Plan} {most : ℕ} {b₀ : List ℕ} where
         rounds : length (next .rounds) ≡ k + 1
         rounds = rounds-more (planned graph p) k (u .here) ∙ ap (λ (m : ℕ). m + 1) (u .going .rounds)
 
-        seen-last : Of (r .round) ≡ lastRound (next .rounds)
-        seen-last = ap Of (pl .round b₀ (u .here) (u .going)) ∙ sym (last-next (planned graph p) k (u .here))
+        -- the round that was run
+        ran : k ≡ most - 1 → Of (r .round) ≡ lastRound (getElem? (next .rounds) (most - 1))
+        ran e =
+            ap Of (pl .round b₀ (u .here) (u .going))
+            ∙ sym (ap (λ (i : ℕ). lastRound (getElem? (next .rounds) i)) (sym (u .going .rounds ∙ e)) ∙ ap lastRound (newest (planned graph p) k (u .here)))
 
         abbrev told : ℕ
         told = cond (logs .complete) 1 (cond (eqb (r .run .carry .recorded .count) (p .config .«num_proposals») && ltb (p .config .«num_proposals» + 5 * p .diameter) k) 2 (cond (ltb (p .config .«num_proposals» + extraRounds) k) 3 0))
@@ -184,15 +184,34 @@ module _ {graph : List ℕ} {p : Plan} {most : ℕ} {b₀ : List ℕ} where
             cond ((seen .complete ∙ ap (complete (p .nodes) (p .config .«num_proposals»)) (states-are shown)) i) 1
             (cond (eqb (count-is shown i) (p .config .«num_proposals») && ltb (p .config .«num_proposals» + 5 * p .diameter) k) 2 (cond (ltb (p .config .«num_proposals» + extraRounds) k) 3 0))
 
-        pub at-end : (end : ℕ) → end ≡ told → (end ≡ 0 → ⊥) → Goes graph p most (record { run = showing (logs .shortest) (r .run); rounds = k + 1; last = Of (r .round); ended = end }) b₀ w'
-        at-end end e q =
+        -- an end came, and it was not the last round that might be run
+        pub at-end : (end : ℕ) → end ≡ told → (end ≡ 0 → ⊥) → (k + 1 ≡ most → ⊥)
+            → Goes graph p most (record { run = showing (logs .shortest) (r .run); rounds = k + 1; last = None; ended = end }) b₀ w'
+        at-end end e q other =
             let same : endAfter (planned graph p) k next ≡ end = sym (e ∙ end-is) in
             goes-as (record { running = next; ended = endAfter (planned graph p) k next })
             (sym from-here ∙ from-end (planned graph p) (most - (k + 1)) k (u .here) under (ap (λ (m : ℕ). eqb m 0) same ∙ ne-eqb end 0 q))
-            (shows-as shown) (steady-as (pl .steady)) rounds seen-last (sym same) (omega (arith, more))
+            (shows-as shown) (steady-as (pl .steady)) rounds (unrun next (k + 1) rounds (omega (arith, more, other))) (sym same) (omega (arith, more))
 
-        pub goes-on : (end : ℕ) → end ≡ told → end ≡ 0 → Underway graph p most (k + 1) (showing (logs .shortest) (r .run)) (Of (r .round)) w' b₀
-        goes-on end e z =
+        -- it was, whether an end came or not
+        pub at-last : (end : ℕ) → end ≡ told → k + 1 ≡ most
+            → Goes graph p most (record { run = showing (logs .shortest) (r .run); rounds = k + 1; last = Of (r .round); ended = end }) b₀ w'
+        unfolding roundsFrom
+        at-last end e used =
+            let same : endAfter (planned graph p) k next ≡ end = sym (e ∙ end-is) in
+            let none-left : most - (k + 1) ≡ 0 = omega (arith, used) in
+            goes-as (record { running = next; ended = end })
+            (sym from-here
+            ∙ ⊎-elim
+            (λ z. from-next (planned graph p) (most - (k + 1)) k (u .here) under z
+            ∙ ap (λ (m : ℕ). roundsFrom (planned graph p) m (suc k) next) none-left
+            ∙ ap (λ (m : ℕ). record { running = next; ended = m }) (sym (sym same ∙ eqb-true (endAfter (planned graph p) k next) 0 z)))
+            (λ z. from-end (planned graph p) (most - (k + 1)) k (u .here) under z ∙ ap (λ (m : ℕ). record { running = next; ended = m }) same)
+            (two (eqb (endAfter (planned graph p) k next) 0)))
+            (shows-as shown) (steady-as (pl .steady)) rounds (ran (omega (arith, used))) refl (omega (arith, more))
+
+        pub goes-on : (end : ℕ) → end ≡ told → end ≡ 0 → (k + 1 ≡ most → ⊥) → Underway graph p most (k + 1) (showing (logs .shortest) (r .run)) w' b₀
+        goes-on end e z other =
             record {
               here = next;
               going = record {
@@ -206,6 +225,5 @@ module _ {graph : List ℕ} {p : Plan} {most : ℕ} {b₀ : List ℕ} where
                   ap (λ (m : ℕ). roundsFrom (planned graph p) (most - (k + 1)) m next) (add-one k)
                   ∙ sym (from-next (planned graph p) (most - (k + 1)) k (u .here) under (eq-eqb _ 0 (sym (e ∙ end-is) ∙ z)))
                   ∙ from-here;
-              last-is = seen-last;
-              in-time = omega (arith, more);
+              in-time = omega (arith, more, other);
             }

@@ -2,8 +2,9 @@
 use Prim.Native.Nat.{ℕ, _+_, _-_, _*_, _≤_, _<_}
 use mathlib.Core.Path.{_≡_}
 use mathlib.Core.Bool.{Bool}
-use mathlib.Core.List.{List, [], _∷_}
-use lib.ListN.{length, replicate}
+use mathlib.Core.List.{List}
+use mathlib.Core.Option.{Option, none, some}
+use lib.ListN.{length, replicate, getElem?}
 use Rattle.config.specs.Limits.{maxNodes, maxTerms, maxRepeats, maxRoundSlots, mostRounds}
 use Rattle.random.specs.Draws.{DrawNext}
 use Rattle.random.specs.Reception.{Source}
@@ -130,26 +131,24 @@ pub record CanGo (graph : List ℕ) (p : Plan) (most : ℕ) (w : Workspace) : Ty
   pub stream : DrawNext (p .config .seed) 0 (w .stream)
   pub room : p .config .«flood_repeats» ≤ length (w .queue)
 
--- the last of some rounds
-abbrev pub lastRound : List Past → LastRound
-lastRound [] = None
-lastRound (p ∷ []) = Of (seenRound p)
-lastRound (p ∷ q ∷ rounds) = lastRound (q ∷ rounds)
+-- the last of the rounds that a run may have, or none
+abbrev pub lastRound : Option Past → LastRound
+lastRound none = None
+lastRound (some p) = Of (seenRound p)
 
 -- Of a run that may take `most` rounds, k are played.
-pub record Underway (graph : List ℕ) (p : Plan) (most k : ℕ) (x : Run) (last : LastRound) (w : Workspace) (b₀ : List ℕ) : Type 0 where
+pub record Underway (graph : List ℕ) (p : Plan) (most k : ℕ) (x : Run) (w : Workspace) (b₀ : List ℕ) : Type 0 where
   pub here : Running
   pub going : Going graph p k x w b₀ here
   pub rest : roundsFrom (planned graph p) (most - k) k here ≡ runFor (planned graph p) most
-  pub last-is : last ≡ lastRound (here .rounds)
-  pub in-time : k ≤ most
+  pub in-time : k ≤ most - 1
 
 -- The code's rounds have stopped where those of the definitions do.
 pub record Goes (graph : List ℕ) (p : Plan) (most : ℕ) (r : Stopped) (b₀ : List ℕ) (w : Workspace) : Type 0 where
   pub shows : Shows p (r .run) w b₀ (runFor (planned graph p) most .running)
   pub steady : Steady (planned graph p .heard) p (r .rounds) (r .run) w
   pub rounds : length (runFor (planned graph p) most .running .rounds) ≡ r .rounds
-  pub last : r .last ≡ lastRound (runFor (planned graph p) most .running .rounds)
+  pub last : r .last ≡ lastRound (getElem? (runFor (planned graph p) most .running .rounds) (most - 1))
   pub ended : r .ended ≡ runFor (planned graph p) most .ended
   pub few : r .rounds ≤ most
 

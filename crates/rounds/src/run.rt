@@ -49,13 +49,14 @@ pub struct Played {
     pub round: SeenRound,
 }
 
-// The last round that was run, if one was.
+// The last of the rounds that a run may have, if it came to it.
 pub enum LastRound {
     None,
     Of(SeenRound),
 }
 
-// A run that has stopped, after how many rounds, the last of them, and its end; 0 where the rounds were used up.
+// A run that has stopped: after how many rounds, the last that it might have, and its end; 0 where the rounds were used
+// up.
 pub struct Stopped {
     pub run: Run,
     pub rounds: u64,
@@ -205,31 +206,37 @@ fn play_rounds(
     let config = plan.config;
     let proposals = config.num_proposals;
     let mut x = new_run(plan.nodes);
-    let mut last = LastRound::None;
     let mut k = 0u64;
     while k < most {
         if config.max_slots <= x.flood.slot.0 {
             return Stopped {
                 run: x,
                 rounds: k,
-                last,
+                last: LastRound::None,
                 ended: 4,
             };
         }
         let played = run_round(graph, plan, k, x, queue, stream, states, history, snapshots);
         x = played.run;
-        let round = played.round;
-        last = LastRound::Of(round);
         let seen = survey(states, plan.nodes, proposals as usize);
         x.progress = seen.shortest;
         let records = x.carry.recorded.count;
         let end = end_after(proposals, plan.diameter as u64, seen.complete, records, k);
         k += 1;
+        if k == most {
+            let round = played.round;
+            return Stopped {
+                run: x,
+                rounds: k,
+                last: LastRound::Of(round),
+                ended: end,
+            };
+        }
         if end != 0 {
             return Stopped {
                 run: x,
                 rounds: k,
-                last,
+                last: LastRound::None,
                 ended: end,
             };
         }
@@ -237,7 +244,7 @@ fn play_rounds(
     Stopped {
         run: x,
         rounds: k,
-        last,
+        last: LastRound::None,
         ended: 0,
     }
 }

@@ -46,7 +46,7 @@ elem-last (y ∷ l) x = elem-last l x
 
 module _ (g : Given) where
   -- the round that was just played
-  newest : (k : ℕ) (r : Running) → getElem? (runRound g k r .rounds) (length (r .rounds)) ≡ some (pastIn g k r)
+  pub newest : (k : ℕ) (r : Running) → getElem? (runRound g k r .rounds) (length (r .rounds)) ≡ some (pastIn g k r)
   unfolding runRound
   newest k r = elem-last (r .rounds) (pastIn g k r)
 

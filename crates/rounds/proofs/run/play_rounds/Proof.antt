@@ -4,16 +4,16 @@ use native.Mathlib.Omega.{arith}
 use denote.Ref.{now}
 use lib.ListN.{length, length-replicate}
 use Rattle.rounds.specs.Going.{workspace, Underway}
-use Rattle.rounds.proofs.Underway.{underway-new, used-up, at-limit, at-end, goes-on, kept-all, same-size}
+use Rattle.rounds.proofs.Underway.{underway-new, used-up, at-limit, at-end, at-last, goes-on, kept-all, same-size, same-table}
 use Rattle.rounds.proofs.run.play_rounds.Statement.{statement}
 use Rattle.rounds.proofs.run.play_rounds.Tie as tie
 
 abbrev Inv-loop : tie.InvT-loop
-Inv-loop graph plan most queue₀ stream₀ states₀ history₀ snapshots₀ config proposals x₀ last₀ k₀ queue stream states history snapshots x last k =
-    Underway graph plan most k x last (workspace queue stream states history snapshots) snapshots₀
+Inv-loop graph plan most queue₀ stream₀ states₀ history₀ snapshots₀ config proposals x₀ k₀ queue stream states history snapshots x k =
+    Underway graph plan most k x (workspace queue stream states history snapshots) snapshots₀
 
 abbrev μ-loop : tie.MeasureT-loop
-μ-loop graph plan most queue₀ stream₀ states₀ history₀ snapshots₀ config proposals x₀ last₀ k₀ queue stream states history snapshots x last k = most - k
+μ-loop graph plan most queue₀ stream₀ states₀ history₀ snapshots₀ config proposals x₀ k₀ queue stream states history snapshots x k = most - k
 
 -- the places of the loop, of the test of the limit and of the round
 abbrev start : tie.At-loop Inv-loop μ-loop → tie.Start Inv-loop μ-loop
@@ -26,7 +26,7 @@ abbrev limited : tie.After-run-round Inv-loop μ-loop → tie.Else1 Inv-loop μ-
 limited c = c .before .before .before .before .before .before
 
 abbrev played : tie.After-end-after Inv-loop μ-loop → tie.After-run-round Inv-loop μ-loop
-played c = c .before .before .before .before .before .before .before .before .before
+played c = c .before .before .before .before .before .before .before .before
 
 new-run-requires : tie.Need-new-run-requires Inv-loop μ-loop
 new-run-requires c κs = c .before .before .before .pre .begins .accepted .few
@@ -67,13 +67,13 @@ run-round-requires c κs =
 
 survey-requires : tie.Need-survey-requires Inv-loop μ-loop
 survey-requires c κs =
-    let r = c .before .before .before .before .before .before .before in
+    let r = c .before .before .before .before .before .before in
     let ok = start (looped (limited r)) .pre .begins .accepted in
     record { kept = kept-all (r .run-round .ensures .steady); some = omega (arith, ok .two); few = ok .few; most = ok .proposals }
 
 end-after-requires : tie.Need-end-after-requires Inv-loop μ-loop
 end-after-requires c κs =
-    let ok = start (looped (limited (c .before .before .before .before .before .before .before .before))) .pre .begins .accepted in
+    let ok = start (looped (limited (c .before .before .before .before .before .before .before))) .pre .begins .accepted in
     (ok .proposals, omega (arith, ok .diameter-low))
 
 add-k : tie.Need-add-k Inv-loop μ-loop
@@ -83,43 +83,63 @@ add-k c =
 
 same-length-3 : tie.Need-same-length-3 Inv-loop μ-loop
 same-length-3 c =
-    let r = played (c .before) in
+    let r = played (c .before .before) in
     let l = looped (limited r) in
-    r .run-round .ensures .steady .sharing .kept .room ∙ sym (l .loop .inv .going .steady .sharing .kept .room) ∙ states-size l
+    same-table (r .run-round .ensures .steady) (l .loop .inv .going .steady) ∙ states-size l
 
 same-length-4 : tie.Need-same-length-4 Inv-loop μ-loop
 same-length-4 c =
-    let r = played (c .before) in
+    let r = played (c .before .before) in
     let u = looped (limited r) .loop .inv in
     same-size (r .run-round .ensures .shows _ (u .here) (u .going))
 
 returns-2 : tie.Need-returns-2 Inv-loop μ-loop
 returns-2 c =
-    let e = c .before in
+    let e = c .before .before in
+    let r = played e in
+    let l = limited r in
+    at-last (looped l .loop .inv) (l .before .before .before .loop-test .taken) (l .if1 .left) (r .run-round .ensures)
+    (e .before .survey .ensures) (e .end-after .result) (e .end-after .ensures) (c .before .if2 .taken)
+
+same-length-5 : tie.Need-same-length-5 Inv-loop μ-loop
+same-length-5 c =
+    let r = played (c .before .before) in
+    let l = looped (limited r) in
+    same-table (r .run-round .ensures .steady) (l .loop .inv .going .steady) ∙ states-size l
+
+same-length-6 : tie.Need-same-length-6 Inv-loop μ-loop
+same-length-6 c =
+    let r = played (c .before .before) in
+    let u = looped (limited r) .loop .inv in
+    same-size (r .run-round .ensures .shows _ (u .here) (u .going))
+
+returns-3 : tie.Need-returns-3 Inv-loop μ-loop
+returns-3 c =
+    let e = c .before .before in
     let r = played e in
     let l = limited r in
     at-end (looped l .loop .inv) (l .before .before .before .loop-test .taken) (l .if1 .left) (r .run-round .ensures)
-    (e .before .survey .ensures) (e .end-after .result) (e .end-after .ensures) (c .if2 .taken)
+    (e .before .survey .ensures) (e .end-after .result) (e .end-after .ensures) (c .if3 .taken) (c .before .if2 .left)
 
 loop-less : tie.Need-loop-less Inv-loop μ-loop
-loop-less c = omega (arith, limited (played (c .before)) .before .before .before .loop-test .taken)
+loop-less c = omega (arith, limited (played (c .before .before)) .before .before .before .loop-test .taken)
 
 loop-again : tie.Need-loop-again Inv-loop μ-loop
 loop-again c =
-    let e = c .before in
+    let e = c .before .before in
     let r = played e in
     let l = limited r in
     goes-on (looped l .loop .inv) (l .before .before .before .loop-test .taken) (l .if1 .left) (r .run-round .ensures)
-    (e .before .survey .ensures) (e .end-after .result) (e .end-after .ensures) (c .if2 .left)
+    (e .before .survey .ensures) (e .end-after .result) (e .end-after .ensures) (c .if3 .left) (c .before .if2 .left)
 
-same-length-5 : tie.Need-same-length-5 Inv-loop μ-loop
-same-length-5 c = states-size (c .before)
+same-length-7 : tie.Need-same-length-7 Inv-loop μ-loop
+same-length-7 c = states-size (c .before)
 
-same-length-6 : tie.Need-same-length-6 Inv-loop μ-loop
-same-length-6 c = same-size (c .before .loop .inv .going .shows)
+same-length-8 : tie.Need-same-length-8 Inv-loop μ-loop
+same-length-8 c = same-size (c .before .loop .inv .going .shows)
 
-returns-3 : tie.Need-returns-3 Inv-loop μ-loop
-returns-3 c = used-up (c .before .loop .inv) (c .loop-test .left)
+returns-4 : tie.Need-returns-4 Inv-loop μ-loop
+returns-4 c = used-up (c .before .loop .inv) (c .loop-test .left)
 
 pub play-rounds-spec : {M : Type 1} → statement M
 play-rounds-spec =
@@ -139,8 +159,11 @@ play-rounds-spec =
     same-length-3
     same-length-4
     returns-2
-    loop-less
-    loop-again
     same-length-5
     same-length-6
-    returns-3)
+    returns-3
+    loop-less
+    loop-again
+    same-length-7
+    same-length-8
+    returns-4)
