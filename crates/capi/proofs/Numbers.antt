@@ -9,6 +9,7 @@ use mathlib.Core.Option.{Option, none, some}
 use native.Mathlib.Omega.{arith}
 use lib.Dec.{eqb, leb}
 use lib.ListN.{length, getElem?}
+use lib.Seq.{sets}
 use Rattle.network.specs.Questions.{within, firstNo, nodesOf, rowsQuestions, topologyQuestions}
 use Rattle.network.specs.Topology.{topologyOf, answered, builtRows, builderRefusal}
 use Rattle.network.specs.Distance.{measured, measuredAs}
@@ -24,6 +25,13 @@ use Rattle.rules.specs.Run.{Past, run}
 use Rattle.rules.specs.Entries.{givenFor, outcomeFor}
 use Rattle.rules.proofs.Admitted.{refused-so}
 use Rattle.metrics.specs.Ratio.{ratioOf, question11, quotient}
+use Rattle.phy.specs.declared.packet.Packet.{Packet}
+use Rattle.wire.specs.Grammar.{hasText, packetText}
+use Rattle.wire.specs.Written.{noText, written}
+use Rattle.wire.specs.declared.Writing.{Writing}
+use Rattle.wire_reader.specs.Reader.{packet}
+use Rattle.wire_reader.specs.Reading.{reading, whole}
+use Rattle.wire_reader.specs.declared.Reading.{Reading}
 use Rattle.preview.specs.declared.Preview.{Preview}
 use Rattle.preview.specs.Preview.{previewAs, previewIn, previewUnless, previewFor}
 
@@ -89,3 +97,23 @@ ratio-numbered part whole k e = go (question11 part whole) (eqb whole 0) e
     go true true p = let z : _≡_ {A = ℕ} 0 1 = cc in absurd (omega arith)
     go true false p = let z : _≡_ {A = ℕ} 0 1 = cc in absurd (omega arith)
     go false b p = let g : _≡_ {A = ℕ} 11 k = cc in subst (λ (x : ℕ). within 1 99 x ≡ true) g refl
+
+-- the writer and the reader of packets refuse by 14 alone
+pub text-numbered : (p : Packet) (n : ℕ) (out : List ℕ) (k : ℕ) → written p n out .0 ≡ Writing.Refused k → k ≡ noText
+unfolding written
+text-numbered p n out k e = go (hasText n p && leb (length (packetText n p)) (length out)) e
+  where
+    go : (b : Bool)
+        → cond {A = Writing × List ℕ} b (Writing.Text (length (packetText n p)), sets out 0 (packetText n p)) (Writing.Refused noText, out) .0 ≡ Writing.Refused k
+        → k ≡ noText
+    go true p = let z : _≡_ {A = ℕ} 0 1 = cc in absurd (omega arith)
+    go false p = cc
+
+pub packet-numbered : (t : List ℕ) (k : ℕ) → reading t ≡ Reading.Refused k → k ≡ noText
+unfolding reading
+packet-numbered t k e = go (packet t) e
+  where
+    go : (o : Option ((Packet × ℕ) × List ℕ)) → whole o ≡ Reading.Refused k → k ≡ noText
+    go none p = cc
+    go (some (x, [])) p = let z : _≡_ {A = ℕ} 0 1 = cc in absurd (omega arith)
+    go (some (x, b ∷ u)) p = cc

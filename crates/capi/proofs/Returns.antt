@@ -17,10 +17,9 @@ use Rattle.metrics.specs.declared.summary.Summary.{Summary}
 use Rattle.rules.specs.Entries.{Outcome}
 use Rattle.rules.specs.Answers.{outcome}
 use Rattle.metrics.specs.Ratio.{ratioOf}
-use Rattle.preview.specs.declared.Preview.{Preview}
 use Rattle.marshal.specs.Convert.{summarySize, ratioResult, summaryAt, resultOf, withSummary}
-use Rattle.marshal.specs.Previews.{packetSize, previewResult}
-use Rattle.capi.specs.Capi.{short, builtResult, returnedRows, measuredResult, returnedDiameter, returnedRatio, returnedOf, returned, returnedOutcome, returnedRun, returnedPreview}
+use Rattle.marshal.specs.Packets.{packetSize}
+use Rattle.capi.specs.Capi.{short, builtResult, returnedRows, measuredResult, returnedDiameter, returnedRatio, returnedOf, returned, returnedOutcome, returnedRun, ifRoom}
 
 module _ (topology first second : ℕ) (out nodes : List ℕ) where
   pub rows-short : length nodes < 1 → _≡_ {A = ℕ × List ℕ × List ℕ} (short, out, nodes) (returnedRows topology first second out nodes)
@@ -79,16 +78,16 @@ module _ (o : Outcome) (summary logs records snapshots : List ℕ) where
   unfolding returnedRun
   run-returned h k s a l r p written e = rw (le-leb _ _ h) (convert k s a l r p summary written ∙ ap (returnedOutcome summary) e)
 
--- a look ahead
-module _ (answer : Preview) (packet part : List ℕ) where
-  pub no-packet : length packet < packetSize → _≡_ {A = ℕ × List ℕ × List ℕ} (short, packet, part) (returnedPreview answer packet part)
-  unfolding returnedPreview
+-- a packet's slice and that for a number
+module _ (packet number : List ℕ) (done refused : ℕ × List ℕ × List ℕ) where
+  pub no-packet : length packet < packetSize → refused ≡ ifRoom packet number done refused
+  unfolding ifRoom
   no-packet h = rw (lt-leb _ _ h)
 
-  pub no-part : length part < 1 → _≡_ {A = ℕ × List ℕ × List ℕ} (short, packet, part) (returnedPreview answer packet part)
-  unfolding returnedPreview
-  no-part h = rw (lt-leb 1 (length part) h, and-false)
+  pub no-number : length number < 1 → refused ≡ ifRoom packet number done refused
+  unfolding ifRoom
+  no-number h = rw (lt-leb 1 (length number) h, and-false)
 
-  pub preview-returned : packetSize ≤ length packet → 1 ≤ length part → (x : Preview) → x ≡ answer → previewResult x packet part ≡ returnedPreview answer packet part
-  unfolding returnedPreview
-  preview-returned h l x e = rw (le-leb _ _ h, le-leb 1 (length part) l) (ap (λ (y : Preview). previewResult y packet part) e)
+  pub room : packetSize ≤ length packet → 1 ≤ length number → done ≡ ifRoom packet number done refused
+  unfolding ifRoom
+  room h l = rw (le-leb _ _ h, le-leb 1 (length number) l)

@@ -1,6 +1,6 @@
--- What each entry for C returns, and the final contents of the lent slices (rules 7.5 to 7.7 and 9.4). The result is 0 or the refusal's
--- number; a refusal leaves every slice as it was. `short` is these entries' own and asked first: has each slice for results, and for a
--- summary, its places?
+-- What each entry for C returns, and the final contents of the lent slices (rules 7.5 to 7.7, 9.4 and 15.9). The result is 0 or the refusal's
+-- number; a refusal leaves every slice as it was. `short` is these entries' own and asked first: has each slice for results, for a
+-- summary and for a packet its places?
 use Prim.Native.Nat.{ℕ}
 use mathlib.Core.Bool.{cond, _&&_}
 use mathlib.Core.List.{List, [], _∷_}
@@ -19,7 +19,10 @@ use Rattle.rules.specs.Entries.{Outcome, runOfRows, runOfTopology}
 use Rattle.metrics.specs.Ratio.{ratioOf}
 use Rattle.preview.specs.declared.Preview.{Preview}
 use Rattle.marshal.specs.Convert.{summarySize, ratioResult, summaryAt, resultOf, withSummary}
-use Rattle.marshal.specs.Previews.{packetSize, previewResult}
+use Rattle.marshal.specs.Packets.{packetSize}
+use Rattle.marshal.specs.Previews.{previewResult}
+use Rattle.marshal.specs.Texts.{readingResult, writtenFrom}
+use Rattle.wire_reader.specs.declared.Reading.{Reading}
 
 -- a slice for results is too short
 abbrev pub short : ℕ
@@ -83,7 +86,18 @@ returnedRunOfTopology topology first second c summary logs records snapshots =
 abbrev pub returnedRunOfRows : List ℕ → ℕ → Config → List ℕ → List ℕ → List ℕ → List ℕ → Returned
 returnedRunOfRows rows n c summary logs records snapshots = returnedRun (runOfRows rows n c logs records snapshots) summary logs records snapshots
 
+-- the results of the entries that take or give a packet: the packet's slice has its places, and that for a number has one
+unfoldable pub ifRoom : List ℕ → List ℕ → ℕ × List ℕ × List ℕ → ℕ × List ℕ × List ℕ → ℕ × List ℕ × List ℕ
+ifRoom packet number done refused = cond (leb packetSize (length packet) && leb 1 (length number)) done refused
+
 -- look ahead: the result, the packet's slice and that of the set
-unfoldable pub returnedPreview : Preview → List ℕ → List ℕ → ℕ × List ℕ × List ℕ
-returnedPreview answer packet part =
-    cond (leb packetSize (length packet) && leb 1 (length part)) (previewResult answer packet part) (short, packet, part)
+abbrev pub returnedPreview : Preview → List ℕ → List ℕ → ℕ × List ℕ × List ℕ
+returnedPreview answer packet part = ifRoom packet part (previewResult answer packet part) (short, packet, part)
+
+-- a packet's text: the result, the text's slice and that of its length
+abbrev pub returnedText : List ℕ → ℕ → List ℕ → List ℕ → ℕ × List ℕ × List ℕ
+returnedText packet n text written = ifRoom packet written (writtenFrom packet n text written) (short, text, written)
+
+-- the packet of a text: the result, the packet's slice and that of its number of flags
+abbrev pub returnedPacket : Reading → List ℕ → List ℕ → ℕ × List ℕ × List ℕ
+returnedPacket answer packet flags = ifRoom packet flags (readingResult answer packet flags) (short, packet, flags)

@@ -5,8 +5,10 @@ use marshal::convert::config_from;
 use marshal::convert::read_summary;
 use marshal::convert::write_answer;
 use marshal::convert::write_ratio;
-use marshal::previews::PACKET_SIZE;
+use marshal::packets::PACKET_SIZE;
 use marshal::previews::write_preview;
+use marshal::texts::write_reading;
+use marshal::texts::write_text;
 use metrics::ratio::ratio;
 use metrics::ratios::flood_coverage;
 use metrics::ratios::link_pdr;
@@ -19,6 +21,7 @@ use preview::preview_topology;
 use random::draws::draws;
 use sim::entries::run_rows;
 use sim::entries::run_topology;
+use wire_reader::read_packet;
 ghost use Prim.Native.Nat.{ℕ};
 ghost use mathlib.Core.Path.{_≡_};
 ghost use mathlib.Core.List.{List};
@@ -28,8 +31,9 @@ ghost use Rattle.preview.specs.Preview.{previewFor};
 ghost use Rattle.rules.specs.Networks.{ofRows, ofTopology};
 ghost use Rattle.random.specs.Draws.{draw};
 ghost use Rattle.random.specs.Table.{tabulate};
-ghost use Rattle.capi.specs.Capi.{returnedRows, returnedDiameter, returnedRatio, linkPdr, floodCoverage, returnedOf, returned, returnedRunOfTopology, returnedRunOfRows, returnedPreview};
+ghost use Rattle.capi.specs.Capi.{returnedRows, returnedDiameter, returnedRatio, linkPdr, floodCoverage, returnedOf, returned, returnedRunOfTopology, returnedRunOfRows, returnedPreview, returnedText, returnedPacket};
 ghost use Rattle.marshal.specs.Convert.{configFrom};
+ghost use Rattle.wire_reader.specs.Reading.{reading};
 
 // What only these entries return: a slice for results is too short.
 const SHORT: u64 = 100;
@@ -298,4 +302,44 @@ pub extern "C" fn ctsim_preview_rows(
     );
     let answer = preview_rows(rows, n, config, round);
     write_preview(answer, packet, part)
+}
+
+// The text of the packet that these numbers are, with so many flags, into the first bytes of `text`, and its length into the
+// first place of `written`.
+#[no_mangle]
+pub extern "C" fn ctsim_write_packet(
+    packet: &[u64],
+    flags: u64,
+    text: &mut [u8],
+    written: &mut [u64],
+) -> u64
+    ensures { λ r. ⌜
+        _≡_ {A = ℕ × List ℕ × List ℕ} (r, now (text .exit), now (written .exit))
+        (returnedText (now (packet .entry)) flags (now (text .entry)) (now (written .entry)))
+        ⌝ }
+{
+    if packet.len() < PACKET_SIZE {
+        return SHORT;
+    }
+    if written.len() < 1 {
+        return SHORT;
+    }
+    write_text(packet, flags, text, written)
+}
+
+// The packet that a text is of, and its number of flags into the first place of `flags`.
+#[no_mangle]
+pub extern "C" fn ctsim_read_packet(text: &[u8], packet: &mut [u64], flags: &mut [u64]) -> u64
+    ensures { λ r. ⌜
+        _≡_ {A = ℕ × List ℕ × List ℕ} (r, now (packet .exit), now (flags .exit))
+        (returnedPacket (reading (now (text .entry))) (now (packet .entry)) (now (flags .entry)))
+        ⌝ }
+{
+    if packet.len() < PACKET_SIZE {
+        return SHORT;
+    }
+    if flags.len() < 1 {
+        return SHORT;
+    }
+    write_reading(read_packet(text), packet, flags)
 }

@@ -7,7 +7,7 @@ use native.Mathlib.Omega.{arith}
 use lib.Dec.{eqb}
 use lib.ListN.{length, getD, take, drop, drop-of-length-le}
 use borrow.Author.Tests.{eq-eqb, ne-eqb}
-use Rattle.line.proofs.Front.{front}
+use Rattle.text.proofs.Front.{front}
 use Rattle.line.specs.Line.{bytesBefore, fields, prefixed}
 
 -- the bytes before a stop are the first ones

@@ -11,7 +11,7 @@ use lib.Seq.{take-all}
 use borrow.Author.Count.{below-none, below-more}
 use borrow.Author.Tests.{eqb-true, leb-true, leb-false}
 use Rattle.line.specs.Line.{bytesBefore, fields, prefixed, isDash, slotsPresent, roundSlots, _>>=_, fourDecimals, readFields, readLine}
-use Rattle.line.specs.Numeral.{decimal, hexadecimal}
+use Rattle.text.specs.Numeral.{decimal, hexadecimal}
 use Rattle.line.specs.declared.read.Read.{Read}
 use Rattle.line.specs.declared.read.Read.the-variants.{Unreadable}
 use Rattle.config.specs.declared.RoundSlots.{RoundSlots}

@@ -6,7 +6,7 @@ use mathlib.Core.Option.{Option, none, some}
 use mathlib.Core.List.{List, [], _∷_}
 use lib.Dec.{eqb}
 use lib.ListN.{length, getD}
-use Rattle.line.specs.Numeral.{decimal, hexadecimal}
+use Rattle.text.specs.Numeral.{decimal, hexadecimal}
 use Rattle.config.specs.declared.RoundSlots.{RoundSlots}
 use Rattle.config.specs.declared.RoundSlots.the-variants.{Absent, Of}
 use Rattle.line.specs.declared.read.SlotsField.{SlotsField}

@@ -1,4 +1,3 @@
 // The line that the program reads, and the configuration that it asks for.
 pub mod configured;
-pub mod numeral;
 pub mod read;

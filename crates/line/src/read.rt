@@ -4,12 +4,12 @@ ghost use mathlib.Core.List.{[]};
 ghost use Prim.Native.Nat.{ℕ, _≤_};
 ghost use lib.ListN.{length, drop, getD};
 ghost use Rattle.line.specs.Line.{bytesBefore, fields, fourDecimals, fourOf, isDash, readFields, readLine, roundSlots, slotsOf, space};
-ghost use Rattle.line.specs.Numeral.{numberOf};
-ghost use Rattle.line.specs.Numeral.{decimal as Numeral·decimal, hexadecimal as Numeral·hexadecimal};
-use super::numeral::Number;
-use super::numeral::decimal;
-use super::numeral::hexadecimal;
+ghost use Rattle.text.specs.Numeral.{numberOf};
+ghost use Rattle.text.specs.Numeral.{decimal as Numeral·decimal, hexadecimal as Numeral·hexadecimal};
 use config::RoundSlots;
+use text::numeral::Number;
+use text::numeral::decimal;
+use text::numeral::hexadecimal;
 
 // How many fields a line has.
 const LINE_FIELDS: usize = 10;

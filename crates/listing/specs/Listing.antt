@@ -1,32 +1,16 @@
 -- The program's listing (rules 11.1 to 11.7).
-use Prim.Native.Nat.{ℕ, zero, suc, _+_, _-_, _*_, _/_, _%_, min}
+use Prim.Native.Nat.{ℕ, _+_, _-_, _*_, _/_, min}
 use Prim.Native.String.{String}
-use mathlib.Core.Bool.{true, false}
-use mathlib.Core.List.{List, [], _∷_, _++_}
-use lib.Dec.{ltb}
+use mathlib.Core.List.{List, _++_}
 use lib.ListN.{length, getD}
 use Rattle.config.specs.Limits.{maxNodes, maxTerms, maxListed, recordSize, snapshotSize, logCounts}
-use Rattle.listing.specs.Ascii.{ascii}
+use Rattle.text.specs.Text.{ascii, spelled, each, numberMost}
 use Rattle.metrics.specs.declared.summary.Summary.{Summary}
 use Rattle.listing.specs.declared.write.Lines.{Lines}
-
--- the last `most` decimal digits of n, all of them if there are no more
-unfoldable pub spelledIn : ℕ → ℕ → List ℕ
-spelledIn zero n = []
-spelledIn (suc most) n = elim (ltb n 10) [ true ↦ (48 + n) ∷ [] | false ↦ spelledIn most (n / 10) ++ ((48 + n % 10) ∷ []) ]
-
--- a number in decimal, with no zero in front: it has at most n + 1 digits
-unfoldable pub spelled : ℕ → List ℕ
-spelled n = spelledIn (suc n) n
 
 -- a word with a number behind it
 unfoldable pub labelled : String → ℕ → List ℕ
 labelled word n = ascii word ++ spelled n
-
--- what f gives for 0 to n - 1, one after the other
-unfoldable pub each : (ℕ → List ℕ) → ℕ → List ℕ
-each f zero = []
-each f (suc n) = each f n ++ f n
 
 -- the run: how many nodes, rounds and slots, and its end number
 unfoldable pub runLine : Summary → List ℕ
@@ -90,11 +74,7 @@ listing s records snapshots logs =
 unfoldable pub refusalText : ℕ → List ℕ
 refusalText n = labelled "refused " n ++ ascii "\n"
 
--- How many bytes each part of a listing has at most: a number below 2^64 has at most 20 digits, and a word of the listing at
--- most 10 bytes; the bounds of the lines follow.
-abbrev pub numberMost : ℕ
-numberMost = 20
-
+-- How many bytes each part of a listing has at most: a word of the listing has at most 10 bytes; the bounds of the lines follow.
 abbrev pub wordMost : ℕ
 wordMost = 10
 

@@ -1,3 +1,3 @@
 // The listing that the program prints.
-mod overlay;
+mod words;
 pub mod write;

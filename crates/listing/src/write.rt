@@ -3,12 +3,12 @@ ghost use mathlib.Core.Path.{_≡_};
 ghost use Prim.Native.Nat.{_*_, _-_, _≤_, _<_, min};
 ghost use lib.ListN.{getD};
 ghost use Rattle.config.specs.Limits.{maxListed, maxNodes, maxTerms};
-ghost use Rattle.listing.specs.Overlay.{Laid, Room, Written};
-ghost use Rattle.listing.specs.Listing.{each, lineOf, linkLine, listing, logLine, proposalLine, radioLine, refusalText, runLine, snapshotLine, termText};
+ghost use Rattle.text.specs.Overlay.{Laid, Room, Written};
+ghost use Rattle.text.specs.Text.{each};
+ghost use Rattle.listing.specs.Listing.{lineOf, linkLine, listing, logLine, proposalLine, radioLine, refusalText, runLine, snapshotLine, termText};
 ghost use Rattle.listing.specs.Listing.{lineMost, linkLineMost, listingMost, logLineMost, proposalLineMost, radioLineMost, mostLines, refusalMost, runLineMost, snapshotLineMost, termMost};
-use super::overlay::put;
-use super::overlay::put_labelled;
-use super::overlay::put_spaced;
+use super::words::put_labelled;
+use super::words::put_spaced;
 use config::limits::LOG_COUNTS;
 use config::limits::MAX_LISTED;
 use config::limits::MAX_NODES;
@@ -16,6 +16,7 @@ use config::limits::MAX_TERMS;
 use config::limits::RECORD_SIZE;
 use config::limits::SNAPSHOT_SIZE;
 use metrics::summary::Summary;
+use text::overlay::put;
 
 // No listing has more bytes: `listingMost` adds them up.
 pub const LISTING_SIZE: usize = 165403;

@@ -1,3 +1,5 @@
 -- Values as the numbers that a call has in C.
 pub mod Convert
+pub mod Packets
 pub mod Previews
+pub mod Texts

@@ -1,3 +1,5 @@
-// Values as the numbers that a call has in C: the configuration, a summary, a ratio, a packet.
+// Values as the numbers that a call has in C: the configuration, a summary, a ratio, a packet and its text.
 pub mod convert;
+pub mod packets;
 pub mod previews;
+pub mod texts;

@@ -1,8 +1,8 @@
--- Two packets are equal when all their fields are (rule 5.3).
+-- The terms of a packet, and the test whether two packets are equal: all their fields are (rule 5.3).
 use Prim.Native.Nat.{ℕ}
-use mathlib.Core.Bool.{Bool, false, _&&_}
+use mathlib.Core.Bool.{Bool, true, false, _&&_}
+use mathlib.Core.Option.{Option, none, some}
 use lib.Dec.{eqb}
-use Rattle.network.specs.declared.units.Term.{Term}
 use Rattle.phy.specs.declared.packet.LastAccepted.{LastAccepted}
 use Rattle.phy.specs.declared.packet.Nack.{Nack}
 use Rattle.phy.specs.declared.packet.Data.{Data}
@@ -10,51 +10,44 @@ use Rattle.phy.specs.declared.packet.Piggyback.{Piggyback}
 use Rattle.phy.specs.declared.packet.Packet.{Packet}
 use Rattle.phy.specs.declared.node.Payload.{Payload}
 
--- ---- parts of a packet that are none or a term: whether there is one, and the term
+-- ---- the terms that a packet may have
 
-pub record TermPart : Type 0 where
-  pub present : ℕ
-  pub term : ℕ
+abbrev pub nackTerm : Nack → Option ℕ
+nackTerm Nack.None = none
+nackTerm (Nack.Of t) = some (t .0)
 
-abbrev pub nothing : TermPart
-nothing = record { present = 0; term = 0 }
+abbrev pub lastAcceptedTerm : LastAccepted → Option ℕ
+lastAcceptedTerm LastAccepted.None = none
+lastAcceptedTerm (LastAccepted.At t) = some (t .0)
 
-abbrev pub partOf : Term → TermPart
-partOf t = record { present = 1; term = t .0 }
+abbrev pub dataTerm : Data → Option ℕ
+dataTerm Data.Empty = none
+dataTerm (Data.Of t) = some (t .0)
 
-abbrev pub nackPart : Nack → TermPart
-nackPart Nack.None = nothing
-nackPart (Nack.Of t) = partOf t
+abbrev pub piggybackTerm : Piggyback → Option ℕ
+piggybackTerm Piggyback.None = none
+piggybackTerm (Piggyback.Of t d) = some (t .0)
 
-abbrev pub acceptedPart : LastAccepted → TermPart
-acceptedPart LastAccepted.None = nothing
-acceptedPart (LastAccepted.At t) = partOf t
-
-abbrev pub dataPart : Data → TermPart
-dataPart Data.Empty = nothing
-dataPart (Data.Of t) = partOf t
-
--- a proposal that is sent once more: its term, and its data
-abbrev pub backPart : Piggyback → TermPart
-backPart Piggyback.None = nothing
-backPart (Piggyback.Of t d) = partOf t
-
-abbrev pub backData : Piggyback → Data
-backData Piggyback.None = Data.Empty
-backData (Piggyback.Of t d) = d
+-- the data of a piggyback; none has no data
+abbrev pub piggybackData : Piggyback → Data
+piggybackData Piggyback.None = Data.Empty
+piggybackData (Piggyback.Of t d) = d
 
 -- both none, or both the same term
-abbrev pub samePart : TermPart → TermPart → Bool
-samePart x y = eqb (x .present) (y .present) && eqb (x .term) (y .term)
+abbrev pub sameTerm : Option ℕ → Option ℕ → Bool
+sameTerm none none = true
+sameTerm none (some u) = false
+sameTerm (some t) none = false
+sameTerm (some t) (some u) = eqb t u
 
 -- ---- whole packets
 
 unfoldable pub samePacket : Packet → Packet → Bool
 samePacket p q =
     ((eqb (p .«current_term» .0) (q .«current_term» .0) && eqb (p .«flags_bitmap») (q .«flags_bitmap»))
-    && (eqb (p .sender .0) (q .sender .0) && samePart (nackPart (p .«nack_term»)) (nackPart (q .«nack_term»))))
-    && ((samePart (acceptedPart (p .«last_accepted_term»)) (acceptedPart (q .«last_accepted_term»)) && samePart (dataPart (p .«proposal_data»)) (dataPart (q .«proposal_data»)))
-    && (samePart (backPart (p .piggyback)) (backPart (q .piggyback)) && samePart (dataPart (backData (p .piggyback))) (dataPart (backData (q .piggyback)))))
+    && (eqb (p .sender .0) (q .sender .0) && sameTerm (nackTerm (p .«nack_term»)) (nackTerm (q .«nack_term»))))
+    && ((sameTerm (lastAcceptedTerm (p .«last_accepted_term»)) (lastAcceptedTerm (q .«last_accepted_term»)) && sameTerm (dataTerm (p .«proposal_data»)) (dataTerm (q .«proposal_data»)))
+    && (sameTerm (piggybackTerm (p .piggyback)) (piggybackTerm (q .piggyback)) && sameTerm (dataTerm (piggybackData (p .piggyback))) (dataTerm (piggybackData (q .piggyback)))))
 
 -- the payload is this packet
 abbrev pub payloadIs : Packet → Payload → Bool

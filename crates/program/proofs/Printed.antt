@@ -3,10 +3,10 @@ use Prim.Native.Nat.{ℕ}
 use mathlib.Core.Path.{_≡_, refl}
 use mathlib.Core.List.{List, [], _∷_, _++_}
 use lib.ListN.{replicate}
-use Rattle.listing.specs.Ascii.{ascii}
+use Rattle.text.specs.Text.{ascii, spelledIn, spelled, each}
 use Rattle.line.specs.Line.{bytesBefore, prefixed, fields, isDash, roundSlots, _>>=_, fourDecimals, readFields, readLine}
-use Rattle.listing.specs.Listing.{spelledIn, spelled, labelled, each, runLine, radioLine, linkLine, proposalLine, snapshotLine, termText, logLine, listing}
-use Rattle.line.specs.Numeral.{digit, allDigits, append, numeral, decimal, hexadecimal}
+use Rattle.listing.specs.Listing.{labelled, runLine, radioLine, linkLine, proposalLine, snapshotLine, termText, logLine, listing}
+use Rattle.text.specs.Numeral.{digit, allDigits, append, numeral, decimal, hexadecimal}
 use Rattle.line.specs.declared.read.Line.{Line}
 use Rattle.line.specs.declared.read.Read.the-variants.{Line as Read·Line}
 use Rattle.config.specs.declared.RoundSlots.the-variants.{Absent}

@@ -25,10 +25,10 @@ use Rattle.phy.proofs.Starred.{length-limits}
 use Rattle.protocol.specs.Paxos.{union, size, logged, hold, holdNew, mergeVotesUpTo, greatestQuorum, commitTerm, commitBelow, newlyBelow, commitTo, newlyTo, gapIn, detectGap, find, recovery}
 use Rattle.protocol.specs.Turns.{announce, initiatorTurn, takeData, takePiggyback, takeVotes, participantTurn}
 use Rattle.protocol.proofs.Starred.{starred}
-use Rattle.listing.specs.Ascii.{ascii}
+use Rattle.text.specs.Text.{ascii, spelledIn, spelled, each}
 use Rattle.line.specs.Line.{bytesBefore, prefixed, fields, isDash, roundSlots, _>>=_, fourDecimals, readFields, readLine}
-use Rattle.listing.specs.Listing.{spelledIn, spelled, labelled, each, runLine, radioLine, linkLine, proposalLine, snapshotLine, termText, logLine, listing}
-use Rattle.line.specs.Numeral.{digit, allDigits, append, numeral, decimal, hexadecimal}
+use Rattle.listing.specs.Listing.{labelled, runLine, radioLine, linkLine, proposalLine, snapshotLine, termText, logLine, listing}
+use Rattle.text.specs.Numeral.{digit, allDigits, append, numeral, decimal, hexadecimal}
 use Rattle.metrics.specs.declared.summary.Summary.{Summary}
 use Rattle.rules.specs.declared.answer.Answer.the-variants.{Ran}
 use Rattle.config.specs.Limits.{logSize, recordsSize}

@@ -8,7 +8,7 @@ use Rattle.config.specs.Limits.{logSize, recordsSize}
 use Rattle.config.specs.declared.Config.{Config}
 use Rattle.line.specs.declared.read.Line.{Line}
 use Rattle.line.specs.Configured.{configOf}
-use Rattle.listing.specs.Overlay.{Written}
+use Rattle.text.specs.Overlay.{Written}
 use Rattle.rules.specs.declared.answer.Answer.{Answer}
 use Rattle.rules.specs.Answers.{outcome}
 use Rattle.rules.specs.Entries.{runOfTopology}

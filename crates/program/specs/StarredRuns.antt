@@ -14,7 +14,7 @@ use Rattle.phy.specs.Round.{lengthLimit}
 use Rattle.protocol.specs.declared.paxos.Gap.{Gap}
 use Rattle.protocol.specs.Growth.{dataFor}
 use Rattle.protocol.specs.Paxos.{State, empty, majority, hold, commitUpTo, newlyUpTo, detectGap}
-use Rattle.listing.specs.Ascii.{ascii}
+use Rattle.text.specs.Text.{ascii}
 use Rattle.metrics.specs.declared.summary.Summary.{Summary}
 use Rattle.rules.specs.declared.answer.Answer.{Answer}
 use Rattle.rules.specs.declared.answer.Answer.the-variants.{Ran}

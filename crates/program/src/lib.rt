@@ -11,7 +11,7 @@ use listing::write::write_refusal;
 use rules::answer::Answer;
 use sim::entries::run_topology;
 ghost use Rattle.listing.specs.Listing.{listingMost};
-ghost use Rattle.listing.specs.Overlay.{Written};
+ghost use Rattle.text.specs.Overlay.{Written};
 ghost use Rattle.program.specs.Printed.{lineText, printed};
 
 // Runs the topology that a line asks for, and lays its listing or refusal over the buffer.

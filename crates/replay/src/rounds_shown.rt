@@ -3,7 +3,7 @@ use config::Config;
 use libc::STDOUT_FILENO;
 use line::configured::config_of;
 use line::read::Line;
-use marshal::previews::PACKET_SIZE;
+use marshal::packets::PACKET_SIZE;
 use marshal::previews::write_preview;
 use preview::Preview;
 use preview::preview_rows;

@@ -1,6 +1,6 @@
 use mathlib.Core.Path.{ap, _∙_}
 use borrow.Author.Needs.{needs}
-use Rattle.line.specs.Numeral.{decimal}
+use Rattle.text.specs.Numeral.{decimal}
 use Rattle.line.proofs.read.decimal_field.Statement.{statement}
 use Rattle.line.proofs.read.decimal_field.Tie as tie
 

@@ -1,6 +1,6 @@
 use mathlib.Core.Path.{_∙_}
 use borrow.Author.Needs.{needs}
-use Rattle.line.specs.Numeral.{numberOf}
+use Rattle.text.specs.Numeral.{numberOf}
 use Rattle.line.specs.Line.{fourDecimals}
 use Rattle.line.proofs.Chain.{read-as, stop, go, skip}
 use Rattle.line.proofs.read.four_decimals.Statement.{statement}

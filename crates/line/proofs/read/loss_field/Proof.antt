@@ -1,6 +1,6 @@
 use mathlib.Core.Path.{ap, _∙_}
 use borrow.Author.Needs.{needs}
-use Rattle.line.specs.Numeral.{hexadecimal}
+use Rattle.text.specs.Numeral.{hexadecimal}
 use Rattle.line.proofs.read.loss_field.Statement.{statement}
 use Rattle.line.proofs.read.loss_field.Tie as tie
 

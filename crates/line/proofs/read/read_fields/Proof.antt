@@ -1,6 +1,6 @@
 use mathlib.Core.Path.{sym, _∙_}
 use borrow.Author.Needs.{needs}
-use Rattle.line.specs.Numeral.{numberOf}
+use Rattle.text.specs.Numeral.{numberOf}
 use Rattle.line.specs.Line.{readFields, slotsOf}
 use Rattle.line.proofs.Chain.{read-as, stop, go, skip, skip-four, stop-four, go-four}
 use Rattle.line.proofs.read.read_fields.Statement.{statement}

@@ -1,6 +1,6 @@
 use mathlib.Core.Path.{sym, _∙_}
 use borrow.Author.Needs.{needs}
-use Rattle.line.specs.Numeral.{numberOf}
+use Rattle.text.specs.Numeral.{numberOf}
 use Rattle.line.specs.Line.{roundSlots}
 use Rattle.line.proofs.Chain.{read-as}
 use Rattle.line.proofs.read.round_slots.Statement.{statement}

@@ -3,7 +3,7 @@ use mathlib.Core.Path.{_≡_, subst}
 use borrow.Author.Needs.{needs}
 use Rattle.listing.specs.declared.write.Lines.{Lines}
 use Rattle.listing.specs.Listing.{lineMost, mostLines}
-use Rattle.listing.specs.Overlay.{Room}
+use Rattle.text.specs.Overlay.{Room}
 use Rattle.listing.proofs.write.put_line.Statement.{statement}
 use Rattle.listing.proofs.write.put_line.Tie as tie
 

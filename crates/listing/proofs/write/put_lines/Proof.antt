@@ -1,7 +1,7 @@
 use Prim.Native.Nat.{_-_}
 use native.Mathlib.Omega.{arith}
 use Rattle.listing.specs.Listing.{lineOf, lineMost}
-use Rattle.listing.proofs.Overlays.{Listed, each-none, each-more, each-room, each-all, same-size}
+use Rattle.text.proofs.Overlays.{Listed, each-none, each-more, each-room, each-all, same-size}
 use Rattle.listing.proofs.write.put_lines.Statement.{statement}
 use Rattle.listing.proofs.write.put_lines.Tie as tie
 

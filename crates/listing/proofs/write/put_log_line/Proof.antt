@@ -2,9 +2,9 @@ use Prim.Native.Nat.{min}
 use mathlib.Core.Path.{ap, _∙_}
 use borrow.Author.Needs.{needs}
 use Rattle.config.specs.Limits.{maxTerms}
-use Rattle.listing.specs.Ascii.{ascii}
+use Rattle.text.specs.Text.{ascii}
 use Rattle.listing.specs.Listing.{labelled, logLine}
-use Rattle.listing.proofs.Overlays.{_then_}
+use Rattle.text.proofs.Overlays.{_then_}
 use Rattle.listing.proofs.write.put_log_line.Statement.{statement}
 use Rattle.listing.proofs.write.put_log_line.Tie as tie
 

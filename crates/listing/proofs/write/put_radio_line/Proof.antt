@@ -1,7 +1,7 @@
 use borrow.Author.Needs.{needs}
-use Rattle.listing.specs.Ascii.{ascii}
+use Rattle.text.specs.Text.{ascii}
 use Rattle.listing.specs.Listing.{labelled, radioLine}
-use Rattle.listing.proofs.Overlays.{_then_}
+use Rattle.text.proofs.Overlays.{_then_}
 use Rattle.listing.proofs.write.put_radio_line.Statement.{statement}
 use Rattle.listing.proofs.write.put_radio_line.Tie as tie
 

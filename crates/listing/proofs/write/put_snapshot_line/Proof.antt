@@ -1,8 +1,8 @@
 use native.Mathlib.Omega.{arith}
 use borrow.Author.Needs.{needs}
-use Rattle.listing.specs.Ascii.{ascii}
+use Rattle.text.specs.Text.{ascii}
 use Rattle.listing.specs.Listing.{labelled, snapshotLine}
-use Rattle.listing.proofs.Overlays.{_then_}
+use Rattle.text.proofs.Overlays.{_then_}
 use Rattle.listing.proofs.write.put_snapshot_line.Statement.{statement}
 use Rattle.listing.proofs.write.put_snapshot_line.Tie as tie
 

@@ -1,5 +1,5 @@
 use borrow.Author.Needs.{needs}
-use Rattle.listing.specs.Ascii.{ascii}
+use Rattle.text.specs.Text.{ascii}
 use Rattle.listing.specs.Listing.{labelled, termText}
 use Rattle.listing.proofs.write.put_term.Statement.{statement}
 use Rattle.listing.proofs.write.put_term.Tie as tie

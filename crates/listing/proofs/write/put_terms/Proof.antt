@@ -2,7 +2,7 @@ use Prim.Native.Nat.{_-_}
 use native.Mathlib.Omega.{arith}
 use Rattle.config.specs.Limits.{maxTerms}
 use Rattle.listing.specs.Listing.{termMost, termText}
-use Rattle.listing.proofs.Overlays.{Listed, each-none, each-more, each-all, reach, same-size}
+use Rattle.text.proofs.Overlays.{Listed, each-none, each-more, each-all, reach, same-size}
 use Rattle.listing.proofs.write.put_terms.Statement.{statement}
 use Rattle.listing.proofs.write.put_terms.Tie as tie
 

@@ -7,7 +7,7 @@ use denote.Ref.{now}
 use Rattle.config.specs.Limits.{maxListed}
 use Rattle.listing.specs.declared.write.Lines.{Lines}
 use Rattle.listing.specs.Listing.{lineOf, listing}
-use Rattle.listing.proofs.Overlays.{_then_, reach, whole, each-as}
+use Rattle.text.proofs.Overlays.{_then_, reach, whole, each-as}
 use Rattle.listing.proofs.write.write_listing.Statement.{statement}
 use Rattle.listing.proofs.write.write_listing.Tie as tie
 

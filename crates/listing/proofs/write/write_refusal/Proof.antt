@@ -1,7 +1,7 @@
 use borrow.Author.Needs.{needs}
-use Rattle.listing.specs.Ascii.{ascii}
+use Rattle.text.specs.Text.{ascii}
 use Rattle.listing.specs.Listing.{labelled, refusalText}
-use Rattle.listing.proofs.Overlays.{_then_, whole}
+use Rattle.text.proofs.Overlays.{_then_, whole}
 use Rattle.listing.proofs.write.write_refusal.Statement.{statement}
 use Rattle.listing.proofs.write.write_refusal.Tie as tie
 

@@ -1,3 +1,0 @@
--- Lemmas that several proofs of the crate use.
-pub mod Overlays
-pub mod Spelling
