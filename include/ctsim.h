@@ -1,7 +1,7 @@
 /*
  * ctsim: radios that flood one packet by constructive interference and agree on a log of proposals
- * by a pipelined Paxos. Ten entries: draws, rows, diameter, three ratios, two runs, and two previews
- * of one round.
+ * by a pipelined Paxos. Twelve entries: draws, rows, diameter, three ratios, two runs, two previews of
+ * one round, and a writer and a reader of a packet's text.
  *
  * Build the library with `rt staticlib capi` and link target/staticlib/libcapi.a. It is for x86-64
  * Linux. It keeps nothing between calls, so that threads may call it at the same time. A run or a
@@ -36,7 +36,7 @@
 extern "C" {
 #endif
 
-/* What an entry returns. 1 to 11 and 13 are the questions, asked in this order; the first "no" is
+/* What an entry returns. 1 to 11, 13 and 14 are the questions, asked in this order; the first "no" is
  * told. 12 is of the program alone. 100 and above are of these entries alone; 100 is asked before the
  * questions. */
 enum ctsim_result {
@@ -53,6 +53,7 @@ enum ctsim_result {
     CTSIM_REFUSED_BUFFERS = 10,    /* logs, records or, for ctsim_rows, rows are too short */
     CTSIM_REFUSED_RATIO = 11,      /* a count of the ratio is above 2^53 */
     CTSIM_REFUSED_ROUND = 13,      /* the run ends before that round: it has at most `round` rounds */
+    CTSIM_REFUSED_TEXT = 14,       /* no packet's text, no packet that has one, or no room for it */
     CTSIM_SHORT = 100,             /* a slice for a summary, a packet or a single result is too short */
     CTSIM_NO_RATIO = 101           /* no refusal: there is no ratio, as the second count is 0 */
 };
@@ -72,7 +73,8 @@ enum ctsim_length {
     CTSIM_SUMMARY_LENGTH = 16,
     CTSIM_LOGS_LENGTH = 2080,
     CTSIM_RECORDS_LENGTH = 192,
-    CTSIM_PACKET_LENGTH = 13
+    CTSIM_PACKET_LENGTH = 13,
+    CTSIM_TEXT_LENGTH = 366 /* no text is longer: each fits into that many bytes */
 };
 
 /* The places of a summary. */
@@ -97,12 +99,14 @@ enum ctsim_summary {
     CTSIM_SNAPSHOTS = 15    /* snapshots that were taken, whether they fitted or not */
 };
 
-/* The places of a packet. "Whether" is 1 for yes and 0 for no; a term that is not there is 0. */
+/* The places of a packet, of a run's or of a text's. "Whether" is 1 for yes and 0 for no; a term that
+ * is not there is 0. What is said of a run need not hold of a text. */
 enum ctsim_packet {
-    CTSIM_PACKET_SENDER = 0,                /* the node that starts the round */
-    CTSIM_PACKET_TERM = 1,                  /* the current term: the one that the round proposes, else
-                                               the last that was proposed, 0 if none was */
-    CTSIM_PACKET_FLAGS = 2,                 /* the flags; the sender is always among them */
+    CTSIM_PACKET_SENDER = 0,                /* a node; in a run the one that starts the round */
+    CTSIM_PACKET_TERM = 1,                  /* the current term; in a run the one that the round
+                                               proposes, else the last that was proposed, 0 if none
+                                               was */
+    CTSIM_PACKET_FLAGS = 2,                 /* the flags; in a run the sender is always among them */
     CTSIM_PACKET_NACK_GIVEN = 3,            /* whether there is a NACK */
     CTSIM_PACKET_NACK = 4,                  /* its term, above 0 */
     CTSIM_PACKET_LAST_ACCEPTED_GIVEN = 5,   /* whether the sender has committed a term */
@@ -239,6 +243,45 @@ uint64_t ctsim_preview_rows(const uint32_t *rows, size_t rows_length, uint64_t n
                             uint64_t round,
                             uint64_t *packet, size_t packet_length,
                             uint64_t *part, size_t part_length);
+
+/*
+ * Writes the text of a packet to the first bytes of `text`, and their number to written[0]. The text
+ * is the JSON that ctsim's serialize_packet makes, in one line and without blanks, its fields in this
+ * order:
+ *   {"current_term":0,"last_accepted_term":null,"flags_bitmap":[true,false],"nack_term":0,"sender":0,
+ *   "proposal_data":[116,120,48],"piggyback_term":null,"piggyback_data":[]}
+ * Numbers are decimal, without leading zeros. There are n flags, for nodes 0 to n - 1: true for each
+ * node that is among the packet's flags. A term that is not there is null, but a NACK that is not
+ * there is 0. The data of term t are the bytes of "tx" and of t in decimal; data that are not there
+ * are []. No NUL is written behind the text.
+ *
+ * A packet has a text exactly when n is 2 to 32, no node at or above n is among the flags, the sender
+ * is below n, every term is below 64, a NACK's term is above 0, proposal data are of the current term,
+ * and piggyback data are of the piggyback's term and never there without a piggyback. Each "whether"
+ * has to be 0 or 1, and a term that is not there 0.
+ *   packet    at least 13 places: the numbers of `enum ctsim_packet`
+ *   flags     n, the number of flags; for a packet of a run its number of nodes
+ *   text      at least as many bytes as the text has; 366 are enough for any
+ *   written   at least 1 place
+ * Returns 0, 14 or 100.
+ */
+uint64_t ctsim_write_packet(const uint64_t *packet, size_t packet_length, uint64_t flags,
+                            uint8_t *text, size_t text_length,
+                            uint64_t *written, size_t written_length);
+
+/*
+ * Reads the text of a packet: writes its numbers to the first places of `packet`, and the number of
+ * its flags to flags[0]. It takes exactly the texts that ctsim_write_packet writes: JSON with a blank,
+ * with its fields in another order or with a number written otherwise is refused, and so is any byte
+ * before or behind the text.
+ *   text      the text, text_length bytes
+ *   packet    at least 13 places: the numbers of `enum ctsim_packet`
+ *   flags     at least 1 place
+ * Returns 0, 14 or 100.
+ */
+uint64_t ctsim_read_packet(const uint8_t *text, size_t text_length,
+                           uint64_t *packet, size_t packet_length,
+                           uint64_t *flags, size_t flags_length);
 
 #ifdef __cplusplus
 }

@@ -1,13 +1,16 @@
 /*
  * Calls each entry of include/ctsim.h with slices that are empty, short, exact and long, and checks
  * the result, what was written and that every other place still holds its mark. The tests of the
- * previews are in previews.c. tests/capi.sh builds both into one program and runs it.
+ * previews are in previews.c, those of the writer and the reader of a packet's text in packets.c and
+ * texts.c. tests/capi.sh builds all into one program and runs it.
  */
 #include <math.h>
 #include <string.h>
 
 #include "check.h"
+#include "packets.h"
 #include "previews.h"
+#include "texts.h"
 
 static void test_draws(void)
 {
@@ -268,5 +271,16 @@ int main(void)
     test_stored();
     test_all_rounds();
     test_no_trace();
+    test_printed_texts();
+    test_text_slices();
+    test_text_rules();
+    test_no_packets();
+    test_all_terms();
+    test_all_data();
+    test_all_flags();
+    test_run_packets();
+    test_damaged();
+    test_fields();
+    test_values();
     return report();
 }

@@ -62,7 +62,7 @@ pub fn check(input: &Input, answer: &Answer, number: u64) -> Checked {
 }
 
 /// Times an odd number, so that all bits of the mark vary.
-pub(crate) fn mark_of(number: u64) -> u64 {
+pub fn mark_of(number: u64) -> u64 {
     number.wrapping_add(1).wrapping_mul(0x9e37_79b9_7f4a_7c15)
 }
 

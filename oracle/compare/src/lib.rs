@@ -5,5 +5,6 @@ pub mod check;
 pub mod clock;
 pub mod exact;
 pub mod library;
+pub mod packets;
 pub mod previews;
 pub mod tally;

@@ -82,6 +82,23 @@ extern "C" {
         part: *mut u64,
         part_length: usize,
     ) -> u64;
+    fn ctsim_write_packet(
+        packet: *const u64,
+        packet_length: usize,
+        flags: u64,
+        text: *mut u8,
+        text_length: usize,
+        written: *mut u64,
+        written_length: usize,
+    ) -> u64;
+    fn ctsim_read_packet(
+        text: *const u8,
+        text_length: usize,
+        packet: *mut u64,
+        packet_length: usize,
+        flags: *mut u64,
+        flags_length: usize,
+    ) -> u64;
 }
 
 pub const SUMMARY_LENGTH: usize = 16;
@@ -121,6 +138,22 @@ pub struct Buffers {
 pub struct PreviewBuffers {
     pub packet: Buffer<u64>,
     pub part: Buffer<u64>,
+}
+
+/// A packet to write, and what it is written to.
+#[derive(Clone)]
+pub struct WriteBuffers {
+    pub packet: Buffer<u64>,
+    pub text: Buffer<u8>,
+    pub written: Buffer<u64>,
+}
+
+/// A text to read, and what its packet is written to.
+#[derive(Clone)]
+pub struct ReadBuffers {
+    pub text: Buffer<u8>,
+    pub packet: Buffer<u64>,
+    pub flags: Buffer<u64>,
 }
 
 /// Whether round slots are given, and the round slots. `any` stands for two arguments that may be
@@ -252,6 +285,47 @@ pub fn preview(input: &Input, any: u64, round: u64, buffers: &mut PreviewBuffers
                 part.lent,
             )
         },
+    }
+}
+
+/// Writes a packet of so many flags, and gives back what the entry returns.
+pub fn write_packet(flags: u64, buffers: &mut WriteBuffers) -> u64 {
+    let WriteBuffers {
+        packet,
+        text,
+        written,
+    } = buffers;
+    // Safety: each pointer is that of a vector with at least so many places.
+    unsafe {
+        ctsim_write_packet(
+            packet.places.as_ptr(),
+            packet.lent,
+            flags,
+            text.places.as_mut_ptr(),
+            text.lent,
+            written.places.as_mut_ptr(),
+            written.lent,
+        )
+    }
+}
+
+/// Reads a text, and gives back what the entry returns.
+pub fn read_packet(buffers: &mut ReadBuffers) -> u64 {
+    let ReadBuffers {
+        text,
+        packet,
+        flags,
+    } = buffers;
+    // Safety: as above.
+    unsafe {
+        ctsim_read_packet(
+            text.places.as_ptr(),
+            text.lent,
+            packet.places.as_mut_ptr(),
+            packet.lent,
+            flags.places.as_mut_ptr(),
+            flags.lent,
+        )
     }
 }
 

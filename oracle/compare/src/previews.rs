@@ -3,7 +3,8 @@
 use crate::check::{differs, mark_of, result_differs};
 use crate::clock::processor_seconds;
 use crate::library::{self, Buffer, PreviewBuffers, PART_LENGTH};
-use oracle::{Answer, Input, Preview, Round, PACKET_LENGTH};
+use crate::packets::Wired;
+use oracle::{Answer, Input, Packet, Preview, Round, PACKET_LENGTH};
 
 /// The library's number for a slice that is too short.
 const SHORT: u64 = 100;
@@ -18,6 +19,8 @@ pub struct Previewed {
     pub asked: u64,
     /// Those that the run ends before.
     pub past_end: u64,
+    /// Those whose packet is seen; it is written and read too.
+    pub packets: u64,
     /// Those whose packet has a NACK.
     pub nacks: u64,
     /// Those whose packet has a piggyback.
@@ -59,7 +62,16 @@ impl Previewed {
                 .or_else(|| contents_differ(&expected, &found))?;
             Some(format!("preview of round {round}: {difference}"))
         };
-        self.difference = self.difference.take().or_else(difference);
+        let wire_difference = || {
+            let packet = Wired::Packet(packet_of(answer, round)?);
+            let difference = packet.check(mark).difference?;
+            Some(format!("packet of round {round}: {difference}"))
+        };
+        self.difference = self
+            .difference
+            .take()
+            .or_else(difference)
+            .or_else(wire_difference);
     }
 
     fn count(&mut self, preview: &Preview) {
@@ -67,12 +79,25 @@ impl Previewed {
         match preview {
             Preview::Refused(13) => self.past_end += 1,
             Preview::Seen(round) => {
+                self.packets += 1;
                 self.nacks += round.packet[NACK];
                 self.piggybacks += round.packet[PIGGYBACK];
             }
             _ => {}
         }
     }
+}
+
+/// A round's packet; the flags are as many as the nodes.
+fn packet_of(answer: &Answer, round: u64) -> Option<Packet> {
+    let Answer::Ran(run) = answer else {
+        return None;
+    };
+    let seen = run.rounds.get(round as usize)?;
+    Some(Packet {
+        flags: run.nodes as u64,
+        numbers: seen.packet,
+    })
 }
 
 /// The first round, one between, the last, the one past it, one with a piggyback if there is any,

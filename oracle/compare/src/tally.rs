@@ -1,9 +1,13 @@
 //! What a comparison saw.
 
+mod wire;
+
 use crate::check::Checked;
+use crate::packets::{CheckedWired, Wired};
 use crate::previews::Previewed;
 use oracle::{Answer, Graph, Input, Summary};
 use std::fmt;
+use wire::Wire;
 
 #[derive(Default)]
 pub struct Tally {
@@ -21,6 +25,7 @@ pub struct Tally {
     exact_of_rows: u64,
     exact_above_zero: u64,
     previews: Previews,
+    wire: Wire,
     ctsim_seconds: f64,
     library_seconds: f64,
     differences: u64,
@@ -38,6 +43,7 @@ struct Previews {
     nacks: u64,
     piggybacks: u64,
     past_end: u64,
+    packets: u64,
     seconds: f64,
 }
 
@@ -67,15 +73,22 @@ impl Tally {
             Answer::Panicked(_) => {}
         }
         if let Some(what) = checked.difference {
-            self.differences += 1;
-            if self
-                .first
-                .as_ref()
-                .is_none_or(|first| number < first.number)
-            {
-                let line = input.to_string();
-                self.first = Some(Difference { number, line, what });
-            }
+            self.add_difference(number, input.to_string(), what);
+        }
+    }
+
+    pub fn add_wired(&mut self, number: u64, wired: &Wired, checked: CheckedWired) {
+        self.wire.add(wired, &checked);
+        if let Some(what) = checked.difference {
+            self.add_difference(number, wired.line(), what);
+        }
+    }
+
+    fn add_difference(&mut self, number: u64, line: String, what: String) {
+        self.differences += 1;
+        let first = self.first.as_ref();
+        if first.is_none_or(|first| number < first.number) {
+            self.first = Some(Difference { number, line, what });
         }
     }
 
@@ -117,6 +130,7 @@ impl Previews {
         self.nacks += previewed.nacks;
         self.piggybacks += previewed.piggybacks;
         self.past_end += previewed.past_end;
+        self.packets += previewed.packets;
     }
 }
 
@@ -148,7 +162,7 @@ impl fmt::Display for Tally {
         writeln!(f, "runs that demand 3 fixes {}", self.exact)?;
         writeln!(f, "  of rows {}", self.exact_of_rows)?;
         writeln!(f, "  at a loss rate above 0 {}", self.exact_above_zero)?;
-        write!(f, "{}", self.previews)?;
+        write!(f, "{}{}", self.previews, self.wire)?;
         writeln!(f, "processor seconds of ctsim {:.0}", self.ctsim_seconds)?;
         writeln!(f, "  of the library {:.0}", self.library_seconds)?;
         writeln!(f, "  of its previews {:.0}", self.previews.seconds)?;
@@ -172,6 +186,7 @@ impl fmt::Display for Previews {
         writeln!(f, "    lossy {}", self.lossy)?;
         writeln!(f, "    whose packet has a NACK {}", self.nacks)?;
         writeln!(f, "    whose packet has a piggyback {}", self.piggybacks)?;
-        writeln!(f, "    refused by 13 {}", self.past_end)
+        writeln!(f, "    refused by 13 {}", self.past_end)?;
+        writeln!(f, "    whose packet was written and read {}", self.packets)
     }
 }

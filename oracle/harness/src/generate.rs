@@ -1,13 +1,18 @@
 //! Inputs to compare on: a list of small ones, random ones around the limits of
-//! the questions, broken ones, and such lines with a round to preview.
+//! the questions, broken ones, and such lines with a round to preview; packets and
+//! texts of packets.
 
+mod packets;
 mod previews;
+mod texts;
 
 use crate::answer::{run, Answer};
 use crate::input::{Graph, Input, GRID, TREE};
+pub use packets::{faults, near_packets, packet_lines, packets};
 pub use previews::previews;
 use rand::{RngCore, SeedableRng};
 use rand_chacha::ChaCha8Rng;
+pub use texts::{damaged_texts, damages};
 
 const TOPOLOGIES: [u64; 6] = [1, 2, 3, 4, 5, 6];
 /// 0, minus 0, 5e-324, 2^-53, 0.1, 0.5 and the greatest f64 below 1.

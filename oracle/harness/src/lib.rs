@@ -1,15 +1,22 @@
-//! ctsim, asked by lines of the program's form or of the rows form, for a run or one of its rounds.
+//! ctsim, asked by lines of the program's form or of the rows form, for a run or one of its rounds,
+//! and by lines for a packet's text or a text's packet.
 
 mod answer;
 mod generate;
 mod input;
+mod line;
 mod listing;
 mod preview;
 mod round;
+mod wire;
 
 pub use answer::{answer, reference, reference_difference, run};
 pub use answer::{Answer, Pending, Record, Summary};
+pub use ctsim::protocol::paxos::{deserialize_packet, serialize_packet};
 pub use generate::{broken, previews, random, random_answered, small};
+pub use generate::{damaged_texts, damages, faults, near_packets, packet_lines, packets};
 pub use input::{Graph, Input};
-pub use preview::{Line, Preview};
+pub use line::Line;
+pub use preview::Preview;
 pub use round::{Round, PACKET_LENGTH};
+pub use wire::{is_taken_by_ctsim, Packet};

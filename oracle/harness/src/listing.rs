@@ -1,8 +1,9 @@
-//! The program's listing, what can be printed after it, and the line of one round.
+//! The program's listing, what can be printed after it, and the lines of one round and one packet.
 
 use crate::answer::{Answer, Summary};
 use crate::preview::Preview;
 use crate::round::Round;
+use crate::wire::Packet;
 use std::fmt;
 
 /// A listing has so many snapshots at most.
@@ -93,6 +94,12 @@ impl Summary {
 impl fmt::Display for Round {
     fn fmt(&self, f: &mut fmt::Formatter) -> fmt::Result {
         write!(f, "packet{} part {}", spaced(self.packet), self.part)
+    }
+}
+
+impl fmt::Display for Packet {
+    fn fmt(&self, f: &mut fmt::Formatter) -> fmt::Result {
+        write!(f, "packet {}{}", self.flags, spaced(self.numbers))
     }
 }
 

@@ -1,31 +1,7 @@
-//! Lines that ask for one round of a run, and what they are answered.
+//! What is told of one round of a run.
 
 use crate::answer::Answer;
-use crate::input::{decimal, Input};
 use crate::round::Round;
-
-/// A readable line of any form.
-pub struct Line {
-    /// Given in `round K LINE`, the preview of round K of LINE's run.
-    pub round: Option<u64>,
-    pub input: Input,
-}
-
-impl Line {
-    /// Reads a line without its newline. `None`: unreadable, refusal 12.
-    pub fn parse(line: &[u8]) -> Option<Self> {
-        let line = std::str::from_utf8(line).ok()?;
-        let (round, line) = match line.strip_prefix("round ") {
-            None => (None, line),
-            Some(rest) => {
-                let (round, line) = rest.split_once(' ')?;
-                (Some(decimal(round)?), line)
-            }
-        };
-        let input = Input::parse(line.as_bytes())?;
-        Some(Self { round, input })
-    }
-}
 
 /// What is told of one round.
 pub enum Preview<'a> {

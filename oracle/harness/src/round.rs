@@ -34,7 +34,7 @@ impl Round {
     }
 }
 
-fn numbers(packet: &PaxosPacket) -> [u64; PACKET_LENGTH] {
+pub(crate) fn numbers(packet: &PaxosPacket) -> [u64; PACKET_LENGTH] {
     // The comment at ctsim's field has it that 0 is none.
     let nack = (packet.nack_term > 0).then_some(packet.nack_term);
     let terms = [
@@ -44,10 +44,14 @@ fn numbers(packet: &PaxosPacket) -> [u64; PACKET_LENGTH] {
         packet.piggyback_term,
         term_of(&packet.piggyback_data),
     ];
+    let flags = set(&packet.flags_bitmap).into();
+    placed([packet.sender as u64, packet.current_term, flags], terms)
+}
+
+/// The numbers in their places: sender, current term and flags, then the five terms.
+pub(crate) fn placed(first: [u64; 3], terms: [Option<u64>; 5]) -> [u64; PACKET_LENGTH] {
     let mut numbers = [0; PACKET_LENGTH];
-    numbers[0] = packet.sender as u64;
-    numbers[1] = packet.current_term;
-    numbers[2] = set(&packet.flags_bitmap).into();
+    numbers[..3].copy_from_slice(&first);
     for (places, term) in numbers[3..].chunks_exact_mut(2).zip(terms) {
         places.copy_from_slice(&term.map_or([0, 0], |term| [1, term]));
     }

@@ -5,7 +5,7 @@ use oracle::{previews, random, run, small, Answer, Input, Line, Preview, Summary
 /// The answer to `round K LINE`.
 fn preview(round: &str, line: &str) -> String {
     let line = format!("round {round} {line}");
-    let Some(Line { round, input }) = Line::parse(line.as_bytes()) else {
+    let Some(Line::Run { round, input }) = Line::parse(line.as_bytes()) else {
         return "refused 12\n".into();
     };
     run(&input).preview(round.expect("a round")).to_string()
@@ -106,7 +106,7 @@ fn packets_follow_the_rules(input: &Input, run: &Summary) {
 fn preview_lines_meet_every_question() {
     let mut met = [false; 14];
     for line in previews(5).take(1500) {
-        let Some(Line { round, input }) = Line::parse(line.as_bytes()) else {
+        let Some(Line::Run { round, input }) = Line::parse(line.as_bytes()) else {
             met[12] = true;
             continue;
         };

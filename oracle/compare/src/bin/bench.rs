@@ -3,7 +3,9 @@
 use compare::arguments::seed_and_count;
 use compare::clock::processor_seconds;
 use compare::library::{self, Buffer, Buffers, PreviewBuffers, PART_LENGTH};
+use compare::library::{ReadBuffers, WriteBuffers};
 use compare::library::{LOGS_LENGTH, RECORDS_LENGTH, SNAPSHOT_LENGTH, SUMMARY_LENGTH};
+use oracle::{deserialize_packet, serialize_packet, Packet};
 use oracle::{Answer, Input, Summary, PACKET_LENGTH};
 use std::hint::black_box;
 use std::process::ExitCode;
@@ -12,8 +14,9 @@ const HELP: &str = "\
 usage: bench [SEED [COUNT]]
 
 Prints a table of the processor time that ctsim and the library take for a run,
-for six fixed runs, a table of the library's previews of their rounds, and the
-median ratio over COUNT random runs (100) of SEED (1).
+for six fixed runs, a table of the library's previews of their rounds, a table of
+packets written and read by both, and the median ratio over COUNT random runs (100)
+of SEED (1).
 ";
 
 const RUNS: [(&str, &str); 6] = [
@@ -62,6 +65,28 @@ const GROWTH: [(&str, &str); 15] = [
     ("grid 4 by 4, loss 0.7, P 16", "4 4 4 2 - 3fe6666666666666 7 16 100 1000000"),
     ("grid 4 by 4, loss 0.9, P 16", "4 4 4 2 - 3feccccccccccccd 7 16 100 1000000"),
 ];
+
+/// The number of flags, and the 13 numbers.
+const PACKETS: [(&str, u64, [u64; PACKET_LENGTH]); 3] = [
+    (
+        "2 flags, nothing optional",
+        2,
+        [0, 0, 1, 0, 0, 0, 0, 0, 0, 0, 0, 0, 0],
+    ),
+    (
+        "16 flags, proposal data",
+        16,
+        [5, 21, 0x5a5a, 0, 0, 0, 0, 1, 21, 0, 0, 0, 0],
+    ),
+    (
+        "32 flags, all that is optional",
+        32,
+        [31, 63, 0x5a5a_a5a5, 1, 60, 1, 61, 1, 63, 1, 59, 1, 59],
+    ),
+];
+
+/// A packet takes so little time that a call is so many.
+const REPEATS: usize = 100;
 
 /// How often, and how long each time at least.
 struct Effort {
@@ -113,6 +138,7 @@ fn print_fixed() {
     print_table(&RUNS);
     print_table(&GROWTH);
     print_previews();
+    print_packets();
     println!();
     for (name, line) in RUNS.iter().chain(&GROWTH) {
         println!("{name}: {line}");
@@ -151,6 +177,23 @@ fn print_previews() {
         let [whole, first, middle, last] = times.map(|s| s * 1e6);
         print!("| {name} | {} ", run.rounds.len());
         println!("| {whole:.1} | {first:.1} | {middle:.1} | {last:.1} |");
+    }
+}
+
+fn print_packets() {
+    println!("\nPackets on the wire: nanoseconds of one call of serialize_packet and");
+    println!("deserialize_packet, and of the library's entries.\n");
+    print!("| packet | bytes | write: ctsim | library | ratio ");
+    println!("| read: ctsim | library | ratio |");
+    println!("|---|---|---|---|---|---|---|---|");
+    for (name, flags, numbers) in PACKETS {
+        let packet = Packet { flags, numbers };
+        let text = packet.write().expect("the packet has a text");
+        let times = measure_packet(&packet, &text, &FIXED);
+        let [write, written, read, taken] = times.map(|s| s * 1e9 / REPEATS as f64);
+        print!("| {name} | {} ", text.len());
+        print!("| {write:.0} | {written:.0} | {:.2} ", write / written);
+        println!("| {read:.0} | {taken:.0} | {:.2} |", read / taken);
     }
 }
 
@@ -197,6 +240,43 @@ fn measure_previews(input: &Input, run: &Summary, effort: &Effort) -> [f64; 4] {
     let previews = [0, last / 2, last].map(|round| library_preview(input, round));
     let [mut first, mut middle, mut last] = previews;
     medians([&mut whole, &mut first, &mut middle, &mut last], effort)
+}
+
+/// The packet written by ctsim and by the library, and its text read by both.
+fn measure_packet(packet: &Packet, text: &[u8], effort: &Effort) -> [f64; 4] {
+    let by_ctsim = deserialize_packet(text).expect("ctsim reads its text");
+    let mut to_write = WriteBuffers {
+        packet: holding(&packet.numbers),
+        text: Buffer::new(text.len(), 0),
+        written: Buffer::new(1, 0),
+    };
+    let mut to_read = ReadBuffers {
+        text: holding(text),
+        packet: Buffer::new(PACKET_LENGTH, 0),
+        flags: Buffer::new(1, 0),
+    };
+    let mut write = repeated(|| drop(black_box(serialize_packet(black_box(&by_ctsim)))));
+    let mut written = repeated(|| {
+        let result = library::write_packet(black_box(packet.flags), black_box(&mut to_write));
+        assert_eq!(result, 0, "refused: {packet}");
+    });
+    let mut read = repeated(|| drop(black_box(deserialize_packet(black_box(text)))));
+    let mut taken = repeated(|| {
+        let result = library::read_packet(black_box(&mut to_read));
+        assert_eq!(result, 0, "refused: {packet}");
+    });
+    medians([&mut write, &mut written, &mut read, &mut taken], effort)
+}
+
+fn repeated(mut call: impl FnMut()) -> impl FnMut() {
+    move || (0..REPEATS).for_each(|_| call())
+}
+
+/// A buffer that lends just these places.
+fn holding<T: Copy + Default>(contents: &[T]) -> Buffer<T> {
+    let mut buffer = Buffer::new(contents.len(), T::default());
+    buffer.places[..contents.len()].copy_from_slice(contents);
+    buffer
 }
 
 fn ran(input: &Input) -> Summary {

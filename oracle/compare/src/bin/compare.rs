@@ -1,8 +1,9 @@
 //! Compares ctsim and the library, line by line.
 
 use compare::arguments::seed_and_count;
-use compare::check::check;
+use compare::check::{check, mark_of};
 use compare::clock::processor_seconds;
+use compare::packets::Wired;
 use compare::tally::Tally;
 use oracle::{Answer, Input};
 use std::process::ExitCode;
@@ -15,13 +16,20 @@ usage: compare [SEED [COUNT]]
 
 Answers by ctsim and by the library, and compares: every line of `inputs small`,
 COUNT random ones (100000) and a tenth as many broken ones. A few rounds of each
-are previewed by the library and compared as well. SEED (1) is the first of the
-seeds that the lines are made from, another for each 500 of them.
+are previewed by the library and compared as well, and their packets are written
+and read. So are COUNT random packets, as many that have a fault, and as many
+damaged texts. SEED (1) is the first of the seeds that all are made from, another
+for each 500 of them.
 Status: 0 all are the same; 1 there is a difference; 2 wrong use.
 ";
 
-/// Lines that one thread takes at a time.
+/// Lines or packets that one thread takes at a time.
 const CHUNK: usize = 500;
+
+enum Chunk<'a> {
+    Lines(Lines<'a>),
+    Packets { seed: u64, count: usize },
+}
 
 /// A chunk of lines.
 enum Lines<'a> {
@@ -66,7 +74,7 @@ fn compare(seed: u64, count: usize) -> bool {
     let broken = count / 10;
     println!("ctsim and the library on the same lines, in one process");
     println!(
-        "small {} random {count} broken {broken}, seed {seed}",
+        "small {} random {count} broken {broken} packets {count}, seed {seed}",
         small.len()
     );
     let chunks = chunks(&small, seed, count, broken);
@@ -74,8 +82,11 @@ fn compare(seed: u64, count: usize) -> bool {
     let next = AtomicUsize::new(0);
     let work = || loop {
         let at = next.fetch_add(1, Ordering::Relaxed);
-        let Some(lines) = chunks.get(at) else { break };
-        compare_chunk(lines, at * CHUNK, &tally);
+        let Some(chunk) = chunks.get(at) else { break };
+        match chunk {
+            Chunk::Lines(lines) => compare_lines(lines, at * CHUNK, &tally),
+            Chunk::Packets { seed, count } => compare_packets(*seed, *count, at * CHUNK, &tally),
+        }
     };
     std::thread::scope(|scope| {
         for _ in 0..threads {
@@ -92,7 +103,7 @@ fn compare(seed: u64, count: usize) -> bool {
 }
 
 /// The chunk's lines are numbered from `first` on.
-fn compare_chunk(lines: &Lines, first: usize, tally: &Mutex<Tally>) {
+fn compare_lines(lines: &Lines, first: usize, tally: &Mutex<Tally>) {
     let mut start = processor_seconds();
     for (i, line) in lines.answered().enumerate() {
         let number = (first + i) as u64;
@@ -112,15 +123,26 @@ fn compare_chunk(lines: &Lines, first: usize, tally: &Mutex<Tally>) {
     }
 }
 
-fn chunks(small: &[Input], seed: u64, random: usize, broken: usize) -> Vec<Lines<'_>> {
+fn compare_packets(seed: u64, count: usize, first: usize, tally: &Mutex<Tally>) {
+    for (i, wired) in Wired::all(seed, count).enumerate() {
+        let number = (first + i) as u64;
+        let checked = wired.check(mark_of(number));
+        let mut tally = tally.lock().expect("no thread panicked");
+        tally.add_wired(number, &wired, checked);
+    }
+}
+
+fn chunks(small: &[Input], seed: u64, random: usize, broken: usize) -> Vec<Chunk<'_>> {
     let seeded = |lines: usize| {
         let counts = (0..lines)
             .step_by(CHUNK)
             .map(move |at| CHUNK.min(lines - at));
         (seed..).zip(counts)
     };
+    let packets = seeded(random).map(|(seed, count)| Chunk::Packets { seed, count });
     let small = small.chunks(CHUNK).map(Lines::Small);
     let random = seeded(random).map(|(seed, count)| Lines::Random { seed, count });
     let broken = seeded(broken).map(|(seed, count)| Lines::Broken { seed, count });
-    small.chain(random).chain(broken).collect()
+    let lines = small.chain(random).chain(broken);
+    lines.map(Chunk::Lines).chain(packets).collect()
 }

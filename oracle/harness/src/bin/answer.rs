@@ -1,6 +1,6 @@
 //! Answers lines: one given as an argument, or all of standard input.
 
-use oracle::{run, Answer, Line};
+use oracle::{run, Answer, Input, Line, Packet};
 use std::io::{self, BufRead, BufWriter, Write};
 use std::process::ExitCode;
 
@@ -15,7 +15,12 @@ with loss as 16 and each SET as 8 lowercase hexadecimal digits. The line
   round K LINE
 is answered with round K of LINE's run alone: `packet`, its 13 numbers, `part`
 and the set of the nodes that took part; or `refused N`, by 13 if the run ends
-before round K.
+before round K. Two more are about packets on the wire:
+  packet N p0 .. p12
+  text TEXT
+The first, N the number of flags, is answered with the packet's text, the second,
+TEXT the rest of the line, with the line of the packet that has this text; either
+with `refused 14` where there is none.
 
   --echo       print `input LINE` before each answer
   --full       after a listing: the count of all snapshots, the buffers' numbers,
@@ -115,15 +120,45 @@ fn print_answer(
     line: &[u8],
     output: &mut impl Write,
 ) -> io::Result<Vec<String>> {
-    let mut faults = Vec::new();
     if options.echo {
         writeln!(output, "input {}", String::from_utf8_lossy(line))?;
     }
-    let Some(Line { round, input }) = Line::parse(line) else {
-        write!(output, "{}", Answer::Refused(12))?;
-        return Ok(vec!["unreadable".into()]);
-    };
-    let answer = run(&input);
+    let mut faults = Vec::new();
+    match Line::parse(line) {
+        None => {
+            write!(output, "{}", Answer::Refused(12))?;
+            faults.push("unreadable".into());
+        }
+        Some(Line::Run { round, input }) => faults = print_of_run(options, round, &input, output)?,
+        Some(Line::Packet(packet)) => print_found(packet.write(), output)?,
+        Some(Line::Text(text)) => {
+            let packet = Packet::read(&text);
+            print_found(packet.map(|packet| packet.to_string()), output)?;
+        }
+    }
+    Ok(faults)
+}
+
+/// Prints a text or a packet, or that there is none.
+fn print_found(found: Option<impl AsRef<[u8]>>, output: &mut impl Write) -> io::Result<()> {
+    match found {
+        Some(found) => {
+            output.write_all(found.as_ref())?;
+            writeln!(output)
+        }
+        None => write!(output, "{}", Answer::Refused(14)),
+    }
+}
+
+/// Prints the answer to a run, or to one of its rounds, and gives back what was wrong.
+fn print_of_run(
+    options: &Options,
+    round: Option<u64>,
+    input: &Input,
+    output: &mut impl Write,
+) -> io::Result<Vec<String>> {
+    let mut faults = Vec::new();
+    let answer = run(input);
     match round {
         Some(round) => write!(output, "{}", answer.preview(round))?,
         None => print_run(options, &answer, output)?,
@@ -132,7 +167,7 @@ fn print_answer(
         faults.push(format!("the Rust panicked: {message}"));
     }
     if options.reference {
-        faults.extend(oracle::reference_difference(&input));
+        faults.extend(oracle::reference_difference(input));
     }
     Ok(faults)
 }

@@ -9,6 +9,7 @@ usage: inputs small
        inputs random SEED COUNT
        inputs broken SEED COUNT
        inputs previews SEED COUNT
+       inputs packets SEED COUNT
 
 Prints lines for `answer`.
   small     every topology of 2 to 4 nodes and the rows of every labelled graph of
@@ -18,6 +19,9 @@ Prints lines for `answer`.
   broken    COUNT lines with values beyond a limit or unreadable, a few still accepted
   previews  COUNT lines `round K LINE`, most of them accepted; K is the first round,
             the last, beside it or between, or far beyond
+  packets   COUNT lines `packet N p0 .. p12` and `text TEXT`: packets that have a text
+            and their texts, packets of runs, and those that a fault or a damage
+            spoils, of which each has its turn; texts are any bytes but a newline
 The same SEED gives the same lines.
 ";
 
@@ -55,6 +59,10 @@ fn print_lines(arguments: &[String]) -> Result<(), String> {
             let count = number("COUNT", count)? as usize;
             write_all(oracle::previews(number("SEED", seed)?).take(count))
         }
+        ["packets", seed, count] => {
+            let count = number("COUNT", count)? as usize;
+            write_bytes(oracle::packet_lines(number("SEED", seed)?).take(count))
+        }
         _ => Err(format!("wrong arguments\n\n{HELP}")),
     }
 }
@@ -65,9 +73,15 @@ fn number(name: &str, text: &str) -> Result<u64, String> {
 }
 
 fn write_all<T: Display>(lines: impl Iterator<Item = T>) -> Result<(), String> {
+    write_bytes(lines.map(|line| line.to_string().into_bytes()))
+}
+
+fn write_bytes(lines: impl Iterator<Item = Vec<u8>>) -> Result<(), String> {
     let mut output = BufWriter::new(io::stdout().lock());
-    for line in lines {
-        writeln!(output, "{line}").map_err(|problem| problem.to_string())?;
+    for mut line in lines {
+        line.push(b'\n');
+        let written = output.write_all(&line);
+        written.map_err(|problem| problem.to_string())?;
     }
     output.flush().map_err(|problem| problem.to_string())
 }

@@ -1,0 +1,36 @@
+//! Lines of every form.
+
+use crate::input::{decimal, Input};
+use crate::wire::Packet;
+
+/// A readable line.
+pub enum Line {
+    /// A run, or of `round K LINE` the preview of round K of LINE's run.
+    Run { round: Option<u64>, input: Input },
+    /// Of `packet N p0 .. p12`: a packet to write.
+    Packet(Packet),
+    /// Of `text TEXT`: a text to read, any bytes.
+    Text(Vec<u8>),
+}
+
+impl Line {
+    /// Reads a line without its newline. `None`: unreadable, refusal 12.
+    pub fn parse(line: &[u8]) -> Option<Self> {
+        if let Some(text) = line.strip_prefix(b"text ") {
+            return Some(Line::Text(text.into()));
+        }
+        let line = std::str::from_utf8(line).ok()?;
+        if let Some(fields) = line.strip_prefix("packet ") {
+            return Packet::parse(fields).map(Line::Packet);
+        }
+        let (round, line) = match line.strip_prefix("round ") {
+            None => (None, line),
+            Some(rest) => {
+                let (round, line) = rest.split_once(' ')?;
+                (Some(decimal(round)?), line)
+            }
+        };
+        let input = Input::parse(line.as_bytes())?;
+        Some(Line::Run { round, input })
+    }
+}
