@@ -27,10 +27,10 @@ use Rattle.rules.proofs.Admitted.{refused-so}
 use Rattle.metrics.specs.Ratio.{ratioOf, question11, quotient}
 use Rattle.phy.specs.declared.packet.Packet.{Packet}
 use Rattle.wire.specs.Grammar.{hasText, packetText}
-use Rattle.wire.specs.Written.{noText, written}
+use Rattle.wire.specs.Writing.{noText, writing}
 use Rattle.wire.specs.declared.Writing.{Writing}
 use Rattle.wire_reader.specs.Reader.{packet}
-use Rattle.wire_reader.specs.Reading.{reading, whole}
+use Rattle.wire_reader.specs.Reading.{reading, nothingBehind}
 use Rattle.wire_reader.specs.declared.Reading.{Reading}
 use Rattle.preview.specs.declared.Preview.{Preview}
 use Rattle.preview.specs.Preview.{previewAs, previewIn, previewUnless, previewFor}
@@ -89,18 +89,18 @@ diameter-numbered rows n k e = first-numbered (rowsQuestions rows n) k refl (go 
     go d none p = let z : _≡_ {A = ℕ} 0 1 = cc in absurd (omega arith)
     go d (some j) p = cc
 
-pub ratio-numbered : (part whole k : ℕ) → ratioOf part whole ≡ Ratio.Refused k → within 1 99 k ≡ true
+pub ratio-numbered : (part nothingBehind k : ℕ) → ratioOf part nothingBehind ≡ Ratio.Refused k → within 1 99 k ≡ true
 unfolding ratioOf
-ratio-numbered part whole k e = go (question11 part whole) (eqb whole 0) e
+ratio-numbered part nothingBehind k e = go (question11 part nothingBehind) (eqb nothingBehind 0) e
   where
-    go : (a b : Bool) → cond a (cond b Ratio.None (Ratio.Of (quotient part whole))) (Ratio.Refused 11) ≡ Ratio.Refused k → within 1 99 k ≡ true
+    go : (a b : Bool) → cond a (cond b Ratio.None (Ratio.Of (quotient part nothingBehind))) (Ratio.Refused 11) ≡ Ratio.Refused k → within 1 99 k ≡ true
     go true true p = let z : _≡_ {A = ℕ} 0 1 = cc in absurd (omega arith)
     go true false p = let z : _≡_ {A = ℕ} 0 1 = cc in absurd (omega arith)
     go false b p = let g : _≡_ {A = ℕ} 11 k = cc in subst (λ (x : ℕ). within 1 99 x ≡ true) g refl
 
 -- the writer and the reader of packets refuse by 14 alone
-pub text-numbered : (p : Packet) (n : ℕ) (out : List ℕ) (k : ℕ) → written p n out .0 ≡ Writing.Refused k → k ≡ noText
-unfolding written
+pub text-numbered : (p : Packet) (n : ℕ) (out : List ℕ) (k : ℕ) → writing p n out .0 ≡ Writing.Refused k → k ≡ noText
+unfolding writing
 text-numbered p n out k e = go (hasText n p && leb (length (packetText n p)) (length out)) e
   where
     go : (b : Bool)
@@ -113,7 +113,7 @@ pub packet-numbered : (t : List ℕ) (k : ℕ) → reading t ≡ Reading.Refused
 unfolding reading
 packet-numbered t k e = go (packet t) e
   where
-    go : (o : Option ((Packet × ℕ) × List ℕ)) → whole o ≡ Reading.Refused k → k ≡ noText
+    go : (o : Option ((Packet × ℕ) × List ℕ)) → nothingBehind o ≡ Reading.Refused k → k ≡ noText
     go none p = cc
     go (some (x, [])) p = let z : _≡_ {A = ℕ} 0 1 = cc in absurd (omega arith)
     go (some (x, b ∷ u)) p = cc

@@ -20,7 +20,7 @@ use Rattle.text.specs.Text.{ascii, spelled, each}
 use Rattle.text.proofs.Spelling.{spelled-short}
 use Rattle.wire.specs.Grammar.{array, bodyMost, bodyText, dataFits, dataMost, dataText, digitMost, flagMost, flagText, flagsMost, flagsText, headerMost, headerText, lastAcceptedFits}
 use Rattle.wire.specs.Grammar.{lastAcceptedText, nackFits, nackNumber, nullMost, packetText, piggybackFits, piggybackMost, piggybackText, smallMost}
-use Rattle.wire.specs.Written.{NoLongerText}
+use Rattle.wire.specs.Writing.{NoLongerText}
 use Rattle.wire.specs.View.{dataBelow, digitText, digitsText, mark, markedFlag}
 use Rattle.wire.proofs.Arrays.{data-text, digits-one, digits-two, flags-each}
 use Rattle.wire.proofs.Fitting.{FlagsFit, TermsFit, data-below, fitting}

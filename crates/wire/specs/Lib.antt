@@ -1,4 +1,4 @@
 -- What is right for the crate `wire`.
 pub mod Grammar
 pub mod View
-pub mod Written
+pub mod Writing

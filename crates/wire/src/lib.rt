@@ -10,7 +10,7 @@ use text::overlay::copy;
 ghost use mathlib.Core.Path.{_≡_};
 ghost use mathlib.Core.List.{List};
 ghost use Prim.Native.Nat.{ℕ};
-ghost use Rattle.wire.specs.Written.{written};
+ghost use Rattle.wire.specs.Writing.{writing};
 
 // What the writer answers: how many bytes the text has, or the refusal with its number.
 pub enum Writing {
@@ -23,7 +23,7 @@ pub const NO_TEXT: u64 = 14;
 
 // Writes a packet's text to the start of a buffer. A refusal writes nothing.
 pub fn write_packet(packet: Packet, flags: u64, out: &mut [u8]) -> Writing
-    ensures { λ r. ⌜ _≡_ {A = Writing × List ℕ} (r, now (out .exit)) (written packet flags (now (out .entry))) ⌝ }
+    ensures { λ r. ⌜ _≡_ {A = Writing × List ℕ} (r, now (out .exit)) (writing packet flags (now (out .entry))) ⌝ }
 {
     if !has_text(packet, flags) {
         return Writing::Refused(NO_TEXT);

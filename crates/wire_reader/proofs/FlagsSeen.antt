@@ -91,16 +91,16 @@ onto-more seen f r t = case (r t)
 
 module _ {text : List ℕ} {at i set next : ℕ} (s : Seen text at i set next) where
   -- what reads on finds none
-  stops : flagsIn (s .left) (drop next text) ≡ none → ValueAt (flagsIn maxNodes >>= counted) text at none
-  stops e = value-none (bind-none _ _ _ (s .goes-on ∙ ap (onto (s .seen)) e))
+  reads-none : flagsIn (s .left) (drop next text) ≡ none → ValueAt (flagsIn maxNodes >>= counted) text at none
+  reads-none e = value-none (bind-none _ _ _ (s .goes-on ∙ ap (onto (s .seen)) e))
 
   pub flag-missing : flag (drop next text) ≡ none → ValueAt (flagsIn maxNodes >>= counted) text at none
-  flag-missing e = stops (flag-none (s .left) (drop next text) e)
+  flag-missing e = reads-none (flag-none (s .left) (drop next text) e)
 
   -- after the most flags no other may follow
   pub flags-full : maxNodes ≤ i → ValueAt (flagsIn maxNodes >>= counted) text at none
   unfolding flagsIn
-  flags-full h = stops (let full : s .left ≡ 0 = omega (arith, s .few) in ap (λ (left : ℕ). flagsIn left (drop next text)) full)
+  flags-full h = reads-none (let full : s .left ≡ 0 = omega (arith, s .few) in ap (λ (left : ℕ). flagsIn left (drop next text)) full)
 
   -- one flag fewer is left
   fewer : i < maxNodes → (left : ℕ) × (s .left ≡ suc left)
@@ -117,7 +117,7 @@ module _ {text : List ℕ} {at i set next : ℕ} (s : Seen text at i set next) w
 
     -- neither the bracket nor a comma stands behind it
     pub flag-ends : w ≡ none → {w′ : Option ℕ} → WordAt (ascii ",") text end w′ → w′ ≡ none → ValueAt (flagsIn maxNodes >>= counted) text at none
-    flag-ends p comma q = let l = fewer more in stops (known (l .0) (l .1) (flag-alone (l .0) next e bracket p comma q))
+    flag-ends p comma q = let l = fewer more in reads-none (known (l .0) (l .1) (flag-alone (l .0) next e bracket p comma q))
 
     -- a comma, and the next flag
     pub flag-follows : {set′ : ℕ} → set′ ≡ set + cond f (2 ^ i) 0 → w ≡ none → {w′ : Option ℕ} → WordAt (ascii ",") text end w′ → (b : ℕ) → w′ ≡ some b

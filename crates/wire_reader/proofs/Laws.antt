@@ -23,8 +23,8 @@ use Rattle.text.specs.Text.{ascii, spelled, spelledIn}
 use Rattle.text.specs.Numeral.{digit}
 use Rattle.wire.specs.Grammar.{lastAcceptedFits, nackFits, dataFits, piggybackFits, flagsFit, termsFit, hasText, dataBytes, behindCommas, array, flagsText, lastAcceptedText, nackNumber, dataText, piggybackText, headerText, bodyText, packetText}
 use Rattle.wire_reader.specs.Reader.{behind, give, _>>=_, behindWord, _orElse_, below, secondDigit, number, lastAccepted, flag, flagsIn, counted, flags, dataOf, piggyback, header, body, packetOf, packet}
-use Rattle.wire.specs.Written.{noText, written}
-use Rattle.wire_reader.specs.Reading.{whole, reading, ExactlyTheTexts, WhatIsWrittenIsRead, WhatIsReadIsWritten, TextsTellApart}
+use Rattle.wire.specs.Writing.{noText, writing}
+use Rattle.wire_reader.specs.Reading.{nothingBehind, reading, ExactlyTheTexts, WhatIsWrittenIsRead, WhatIsReadIsWritten, TextsTellApart}
 use Rattle.wire_reader.specs.declared.fields.Header.{Header}
 use Rattle.wire_reader.specs.declared.fields.Body.{Body}
 use Rattle.wire.specs.declared.Writing.{Writing}
@@ -183,7 +183,7 @@ packet-only =
 -- a packet's text is read as the packet
 text-reads : (p : Packet) (n : ℕ) → hasText n p ≡ true → reading (packetText n p) ≡ Reading.Packet p n
 unfolding reading
-text-reads p n e = ap whole (ap packet (sym (append-nil (packetText n p))) ∙ packet-reads p n [] e)
+text-reads p n e = ap nothingBehind (ap packet (sym (append-nil (packetText n p))) ∙ packet-reads p n [] e)
 
 -- and nothing else is read
 reading-only : (t : List ℕ) (p : Packet) (n : ℕ) → reading t ≡ Reading.Packet p n → (hasText n p ≡ true) × (t ≡ packetText n p)
@@ -192,7 +192,7 @@ reading-only t p n e =
     let found = packet-only t (p, n) [] (case (packet t) e) in
     (found .0, found .1 ∙ append-nil (packetText n p))
   where
-    case : (o : Option ((Packet × ℕ) × List ℕ)) → whole o ≡ Reading.Packet p n → o ≡ some ((p, n), [])
+    case : (o : Option ((Packet × ℕ) × List ℕ)) → nothingBehind o ≡ Reading.Packet p n → o ≡ some ((p, n), [])
     case none e = cc
     case (some ((q, m), [])) e = cc
     case (some ((q, m), b ∷ u)) e = cc
@@ -201,7 +201,7 @@ pub exactly-the-texts : ExactlyTheTexts
 exactly-the-texts t p n = (reading-only t p n, λ both. ap reading (both .1) ∙ text-reads p n (both .0))
 
 pub what-is-written-is-read : WhatIsWrittenIsRead
-unfolding written
+unfolding writing
 what-is-written-is-read p n out size e = case (hasText n p && leb (length text) (length out)) refl e
   where
     text : List ℕ
@@ -219,7 +219,7 @@ what-is-written-is-read p n out size e = case (hasText n p && leb (length text) 
     case false q e = cc
 
 pub what-is-read-is-written : WhatIsReadIsWritten
-unfolding written
+unfolding writing
 what-is-read-is-written t p n e out room =
     let (fits, text) = reading-only t p n e in
     rw (← text, fits, le-leb (length t) (length out) room)

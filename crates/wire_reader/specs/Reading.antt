@@ -9,20 +9,20 @@ use lib.ListN.{length, take}
 use lib.Seq.{sets}
 use Rattle.phy.specs.declared.packet.Packet.{Packet}
 use Rattle.wire.specs.Grammar.{hasText, packetText}
-use Rattle.wire.specs.Written.{noText, written}
+use Rattle.wire.specs.Writing.{noText, writing}
 use Rattle.wire.specs.declared.Writing.{Writing}
 use Rattle.wire_reader.specs.Reader.{packet}
 use Rattle.wire_reader.specs.declared.Reading.{Reading}
 
 -- nothing stands behind the packet
-abbrev pub whole : Option ((Packet × ℕ) × List ℕ) → Reading
-whole (some ((p, n), [])) = Reading.Packet p n
-whole (some ((p, n), b ∷ t)) = Reading.Refused noText
-whole none = Reading.Refused noText
+abbrev pub nothingBehind : Option ((Packet × ℕ) × List ℕ) → Reading
+nothingBehind (some ((p, n), [])) = Reading.Packet p n
+nothingBehind (some ((p, n), b ∷ t)) = Reading.Refused noText
+nothingBehind none = Reading.Refused noText
 
 -- the reader's answer
 unfoldable pub reading : List ℕ → Reading
-reading t = whole (packet t)
+reading t = nothingBehind (packet t)
 
 -- The reader takes exactly the texts of packets: nothing before them, nothing behind them.
 abbrev pub ExactlyTheTexts : Type 0
@@ -30,13 +30,13 @@ ExactlyTheTexts = (t : List ℕ) (p : Packet) (n : ℕ) → (reading t ≡ Readi
 
 -- Reading what the writer made gives the packet and its number of flags.
 abbrev pub WhatIsWrittenIsRead : Type 0
-WhatIsWrittenIsRead = (p : Packet) (n : ℕ) (out : List ℕ) (size : ℕ) → written p n out .0 ≡ Writing.Text size → reading (take size (written p n out .1)) ≡ Reading.Packet p n
+WhatIsWrittenIsRead = (p : Packet) (n : ℕ) (out : List ℕ) (size : ℕ) → writing p n out .0 ≡ Writing.Text size → reading (take size (writing p n out .1)) ≡ Reading.Packet p n
 
 -- A text that is read is what the writer makes of the answer.
 abbrev pub WhatIsReadIsWritten : Type 0
 WhatIsReadIsWritten =
     (t : List ℕ) (p : Packet) (n : ℕ) → reading t ≡ Reading.Packet p n →
-    (out : List ℕ) → length t ≤ length out → written p n out ≡ (Writing.Text (length t), sets out 0 t)
+    (out : List ℕ) → length t ≤ length out → writing p n out ≡ (Writing.Text (length t), sets out 0 t)
 
 -- Two packets with equal texts are equal, and have equally many flags.
 abbrev pub TextsTellApart : Type 0

@@ -12,23 +12,23 @@ use borrow.Author.Tests.{not-true, not-false, le-leb, lt-leb}
 use Rattle.phy.specs.declared.packet.Packet.{Packet}
 use Rattle.text.proofs.Overlays.{laid-text, same-size}
 use Rattle.wire.specs.Grammar.{hasText, packetText}
-use Rattle.wire.specs.Written.{noText, written}
+use Rattle.wire.specs.Writing.{noText, writing}
 use Rattle.wire.specs.declared.Writing.{Writing}
 use Rattle.wire.proofs.write_packet.Statement.{statement}
 use Rattle.wire.proofs.write_packet.Tie as tie
 
 -- the three answers
 module _ (p : Packet) (n : ℕ) (out : List ℕ) where
-  textless : hasText n p ≡ false → written p n out ≡ (Writing.Refused noText, out)
-  unfolding written
+  textless : hasText n p ≡ false → writing p n out ≡ (Writing.Refused noText, out)
+  unfolding writing
   textless e = simp e
 
-  short : length out < length (packetText n p) → written p n out ≡ (Writing.Refused noText, out)
-  unfolding written
+  short : length out < length (packetText n p) → writing p n out ≡ (Writing.Refused noText, out)
+  unfolding writing
   short h = simp (lt-leb (length (packetText n p)) (length out) h, and-false)
 
-  fitting : hasText n p ≡ true → length (packetText n p) ≤ length out → written p n out ≡ (Writing.Text (length (packetText n p)), sets out 0 (packetText n p))
-  unfolding written
+  fitting : hasText n p ≡ true → length (packetText n p) ≤ length out → writing p n out ≡ (Writing.Text (length (packetText n p)), sets out 0 (packetText n p))
+  unfolding writing
   fitting e h = simp (e, le-leb (length (packetText n p)) (length out) h)
 
 returns : tie.Need-returns

@@ -10,8 +10,8 @@ use Rattle.text.proofs.Front.{front}
 use Rattle.phy.specs.declared.packet.Packet.{Packet}
 use Rattle.wire_reader.specs.Reader.{packet, packetOf, give}
 use Rattle.wire_reader.specs.View.{headerFound, bodyFound, currentTerm}
-use Rattle.wire.specs.Written.{noText}
-use Rattle.wire_reader.specs.Reading.{reading, whole}
+use Rattle.wire.specs.Writing.{noText}
+use Rattle.wire_reader.specs.Reading.{reading, nothingBehind}
 use Rattle.wire_reader.specs.declared.Reading.{Reading}
 use Rattle.wire_reader.proofs.Words.{bind-reads, bind-none}
 use Rattle.wire_reader.proofs.Places.{right-as, inside-as}
@@ -22,7 +22,7 @@ use Rattle.wire_reader.proofs.read_packet.Tie as tie
 module _ (t : List ℕ) where
   none-read : packet t ≡ none → Reading.Refused noText ≡ reading t
   unfolding reading
-  none-read e = ap whole (sym e)
+  none-read e = ap nothingBehind (sym e)
 
   module _ (p : Packet) (n end : ℕ) (e : packet t ≡ some ((p, n), drop end t)) where
     more-behind : end < length t → Reading.Refused noText ≡ reading t

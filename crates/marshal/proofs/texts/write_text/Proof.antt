@@ -6,7 +6,7 @@ use borrow.Author.Needs.{needs}
 use borrow.Author.Tests.{not-true, not-false}
 use denote.Ref.{now}
 use Rattle.phy.specs.declared.packet.Packet.{Packet}
-use Rattle.wire.specs.Written.{noText, written}
+use Rattle.wire.specs.Writing.{noText, writing}
 use Rattle.wire.specs.declared.Writing.{Writing}
 use Rattle.marshal.specs.Packets.{formed, packetAt}
 use Rattle.marshal.specs.Texts.{writingResult, writtenFrom}
@@ -19,7 +19,7 @@ module _ (numbers : List ℕ) (n : ℕ) (text out : List ℕ) where
   unfolding writtenFrom
   unformed e = simp e
 
-  of-packet : formed numbers ≡ true → writtenFrom numbers n text out ≡ writingResult (written (packetAt numbers) n text) out
+  of-packet : formed numbers ≡ true → writtenFrom numbers n text out ≡ writingResult (writing (packetAt numbers) n text) out
   unfolding writtenFrom
   of-packet e = simp e
 
@@ -38,7 +38,7 @@ answer c =
     let a = passed .before .before .before .before .before .args in
     of-packet (now (a .numbers)) (a .flags) (now (a .text)) (now (a .written)) (sym (passed .before .formed .ensures) ∙ not-false _ (passed .if1 .left))
     ∙ ap (λ (w : Writing × List ℕ). writingResult w (now (a .written)))
-    (ap (λ (p : Packet). written p (a .flags) (now (a .text))) (sym (read .read-numbers .ensures)) ∙ sym (c .write-packet .ensures))
+    (ap (λ (p : Packet). writing p (a .flags) (now (a .text))) (sym (read .read-numbers .ensures)) ∙ sym (c .write-packet .ensures))
 
 returns-2 : tie.Need-returns-2
 returns-2 c =

@@ -15,8 +15,8 @@ abbrev pub noText : ℕ
 noText = 14
 
 -- the writer's answer, and what the buffer holds afterwards
-unfoldable pub written : Packet → ℕ → List ℕ → Writing × List ℕ
-written p n out =
+unfoldable pub writing : Packet → ℕ → List ℕ → Writing × List ℕ
+writing p n out =
     let text = packetText n p in
     cond (hasText n p && leb (length text) (length out)) (Writing.Text (length text), sets out 0 text) (Writing.Refused noText, out)
 
