@@ -1,7 +1,7 @@
 -- Arrays as the code lays them: the flags behind a bracket or a comma each, and the digits of a term's data. Assumes nothing.
 use Prim.Native.Nat.{ℕ, zero, suc, _+_, _/_, _%_, _≤_, _<_}
 use mathlib.Core.Path.{_≡_, refl, sym}
-use mathlib.Core.List.{List, [], _∷_, _++_, map, append-assoc, append-nil}
+use mathlib.Core.List.{List, [], _∷_, _++_, append-assoc, append-nil}
 use native.Mathlib.Omega.{arith}
 use Rattle.random.specs.Table.{tabulate}
 use Rattle.network.specs.Graph.{has}

@@ -1,6 +1,6 @@
 use borrow.Author.Needs.{needs}
 use Rattle.text.specs.Text.{ascii}
-use Rattle.text.proofs.Overlays.{_then_, same-size}
+use Rattle.text.proofs.Overlays.{_then_}
 use Rattle.wire.proofs.put.put_digit.Statement.{statement}
 use Rattle.wire.proofs.put.put_digit.Tie as tie
 

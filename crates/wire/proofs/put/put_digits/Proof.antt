@@ -1,6 +1,6 @@
 use native.Mathlib.Omega.{arith}
 use borrow.Author.Needs.{needs}
-use Rattle.text.proofs.Overlays.{_then_, reach, within, same-size}
+use Rattle.text.proofs.Overlays.{_then_, within, same-size}
 use Rattle.wire.proofs.Arrays.{digits-one, digits-two}
 use Rattle.wire.proofs.put.put_digits.Statement.{statement}
 use Rattle.wire.proofs.put.put_digits.Tie as tie

@@ -2,7 +2,7 @@ use Prim.Native.Nat.{_-_}
 use native.Mathlib.Omega.{arith}
 use Rattle.config.specs.Limits.{maxNodes}
 use Rattle.text.specs.Text.{ascii}
-use Rattle.text.proofs.Overlays.{Listed, each-none, each-more, each-room, each-all, reach, same-size, _then_}
+use Rattle.text.proofs.Overlays.{Listed, each-none, each-more, each-all, reach, same-size, _then_}
 use Rattle.wire.specs.Grammar.{flagMost}
 use Rattle.wire.specs.View.{markedFlag}
 use Rattle.wire.proofs.Arrays.{flags-each}

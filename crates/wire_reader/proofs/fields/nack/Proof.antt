@@ -1,6 +1,5 @@
-use mathlib.Core.Path.{_≡_, refl, sym, ap, _∙_}
+use mathlib.Core.Path.{_≡_, refl, sym, ap}
 use Prim.Native.Nat.{ℕ, zero, suc}
-use native.Mathlib.Omega.{arith}
 use Rattle.phy.specs.declared.packet.Nack.{Nack}
 use Rattle.wire_reader.specs.Reader.{nack}
 use Rattle.wire_reader.proofs.fields.nack.Statement.{statement}
