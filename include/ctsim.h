@@ -260,7 +260,8 @@ uint64_t ctsim_preview_rows(const uint32_t *rows, size_t rows_length, uint64_t n
  * and piggyback data are of the piggyback's term and never there without a piggyback. Each "whether"
  * has to be 0 or 1, and a term that is not there 0.
  *   packet    at least 13 places: the numbers of `enum ctsim_packet`
- *   flags     n, the number of flags; for a packet of a run its number of nodes
+ *   flags     n, the number of flags; for a packet of a run its number of nodes, with which every
+ *             packet of a preview has a text
  *   text      at least as many bytes as the text has; 366 are enough for any
  *   written   at least 1 place
  * Returns 0, 14 or 100.

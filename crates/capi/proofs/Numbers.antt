@@ -89,11 +89,11 @@ diameter-numbered rows n k e = first-numbered (rowsQuestions rows n) k refl (go 
     go d none p = let z : _≡_ {A = ℕ} 0 1 = cc in absurd (omega arith)
     go d (some j) p = cc
 
-pub ratio-numbered : (part nothingBehind k : ℕ) → ratioOf part nothingBehind ≡ Ratio.Refused k → within 1 99 k ≡ true
+pub ratio-numbered : (part whole k : ℕ) → ratioOf part whole ≡ Ratio.Refused k → within 1 99 k ≡ true
 unfolding ratioOf
-ratio-numbered part nothingBehind k e = go (question11 part nothingBehind) (eqb nothingBehind 0) e
+ratio-numbered part whole k e = go (question11 part whole) (eqb whole 0) e
   where
-    go : (a b : Bool) → cond a (cond b Ratio.None (Ratio.Of (quotient part nothingBehind))) (Ratio.Refused 11) ≡ Ratio.Refused k → within 1 99 k ≡ true
+    go : (a b : Bool) → cond a (cond b Ratio.None (Ratio.Of (quotient part whole))) (Ratio.Refused 11) ≡ Ratio.Refused k → within 1 99 k ≡ true
     go true true p = let z : _≡_ {A = ℕ} 0 1 = cc in absurd (omega arith)
     go true false p = let z : _≡_ {A = ℕ} 0 1 = cc in absurd (omega arith)
     go false b p = let g : _≡_ {A = ℕ} 11 k = cc in subst (λ (x : ℕ). within 1 99 x ≡ true) g refl

@@ -1,9 +1,10 @@
 -- What each entry for C returns, and the final contents of the lent slices (rules 7.5 to 7.7, 9.4 and 15.9). The result is 0 or the refusal's
--- number; a refusal leaves every slice as it was. `short` is these entries' own and asked first: has each slice for results, for a
--- summary and for a packet its places?
-use Prim.Native.Nat.{ℕ}
+-- number; a refusal leaves every slice as it was. `short` is these entries' own and asked first: has the slice of a summary, of a packet
+-- or of a single result its places?
+use Prim.Native.Nat.{ℕ, _≤_}
+use mathlib.Core.Path.{_≡_}
 use mathlib.Core.Bool.{cond, _&&_}
-use mathlib.Core.List.{List, [], _∷_}
+use mathlib.Core.List.{List, [], _∷_, _++_}
 use lib.Dec.{leb}
 use lib.Ieee.{Float}
 use lib.ListN.{length}
@@ -15,16 +16,20 @@ use Rattle.network.specs.declared.distance.Measured.{Measured}
 use Rattle.metrics.specs.declared.summary.Summary.{Summary}
 use Rattle.config.specs.declared.Config.{Config}
 use Rattle.metrics.specs.declared.ratios.Ratio.{Ratio}
-use Rattle.rules.specs.Entries.{Outcome, runOfRows, runOfTopology}
+use Rattle.rules.specs.declared.answer.SeenRound.{SeenRound}
+use Rattle.rules.specs.Networks.{RowsOrTopology}
+use Rattle.rules.specs.Entries.{Outcome, givenFor, runOfRows, runOfTopology}
 use Rattle.metrics.specs.Ratio.{ratioOf}
 use Rattle.preview.specs.declared.Preview.{Preview}
+use Rattle.preview.specs.Preview.{previewFor}
 use Rattle.marshal.specs.Convert.{summarySize, ratioResult, summaryAt, resultOf, withSummary}
-use Rattle.marshal.specs.Packets.{packetSize}
+use Rattle.marshal.specs.Packets.{packetSize, packetNumbers}
 use Rattle.marshal.specs.Previews.{previewResult}
 use Rattle.marshal.specs.Texts.{readingResult, writtenFrom}
+use Rattle.wire.specs.Grammar.{textMost}
 use Rattle.wire_reader.specs.declared.Reading.{Reading}
 
--- a slice for results is too short
+-- the slice of a summary, of a packet or of a single result is too short
 abbrev pub short : ℕ
 short = 100
 
@@ -101,3 +106,14 @@ returnedText packet n text written = ifRoom packet written (writtenFrom packet n
 -- the packet of a text: the result, the packet's slice and that of its number of flags
 abbrev pub returnedPacket : Reading → List ℕ → List ℕ → ℕ × List ℕ × List ℕ
 returnedPacket answer packet flags = ifRoom packet flags (readingResult answer packet flags) (short, packet, flags)
+
+-- What a look ahead shows is written: the packet's numbers as the one entry gives them, whatever stands behind them, with as many flags as the
+-- run has nodes and room for any text.
+abbrev pub SeenIsWritten : Type 0
+SeenIsWritten =
+    (q : RowsOrTopology) (c : Config) (k : ℕ) (seen : SeenRound) →
+    previewFor q c k ≡ Preview.Seen seen →
+    (behind text written : List ℕ) →
+    textMost ≤ length text →
+    1 ≤ length written →
+    returnedText (packetNumbers (seen .packet) ++ behind) (givenFor q c .nodes) text written .0 ≡ 0

@@ -35,7 +35,7 @@ ghost use Rattle.capi.specs.Capi.{returnedRows, returnedDiameter, return
 ghost use Rattle.marshal.specs.Convert.{configFrom};
 ghost use Rattle.wire_reader.specs.Reading.{reading};
 
-// What only these entries return: a slice for results is too short.
+// What only these entries return: the slice of a summary, of a packet or of a single result is too short.
 const SHORT: u64 = 100;
 
 // Fills a slice with the draws of a seed, from draw 0 on. Never refused.

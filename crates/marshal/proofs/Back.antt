@@ -1,10 +1,12 @@
 -- What is written can be read again. Assumes nothing.
-use Prim.Native.Nat.{ℕ}
+use Prim.Native.Nat.{ℕ, _≤_}
 use mathlib.Core.Path.{_≡_, refl, ap, _∙_}
 use mathlib.Core.Bool.{true, _&&_}
 use mathlib.Core.List.{List, [], _∷_, _++_}
 use mathlib.Core.Option.{Option, none, some}
+use native.Mathlib.Omega.{arith}
 use lib.Dec.{leb}
+use lib.ListN.{length}
 use Rattle.metrics.specs.declared.summary.Summary.{Summary}
 use Rattle.phy.specs.Packets.{nackTerm, lastAcceptedTerm, dataTerm, piggybackTerm, piggybackData}
 use Rattle.phy.specs.declared.packet.LastAccepted.{LastAccepted}
@@ -13,7 +15,7 @@ use Rattle.phy.specs.declared.packet.Data.{Data}
 use Rattle.phy.specs.declared.packet.Piggyback.{Piggyback}
 use Rattle.phy.specs.declared.packet.Packet.{Packet}
 use Rattle.marshal.specs.Convert.{summaryNumbers, summaryAt}
-use Rattle.marshal.specs.Packets.{termNumbers, packetNumbers, formedTerm, formed, nackFrom, lastAcceptedFrom, dataFrom, piggybackFrom, packetAt}
+use Rattle.marshal.specs.Packets.{packetSize, termNumbers, packetNumbers, formedTerm, formed, nackFrom, lastAcceptedFrom, dataFrom, piggybackFrom, packetAt}
 
 -- a summary is read as it was written, whatever follows it
 pub summary-back : (s : Summary) (l : List ℕ) → summaryAt (summaryNumbers s ++ l) ≡ s
@@ -51,6 +53,9 @@ one-by-one p l =
     p .sender .0 ∷ p .«current_term» .0 ∷ p .«flags_bitmap»
     ∷ two-numbers (nackTerm (p .«nack_term»)) i ++ two-numbers (lastAcceptedTerm (p .«last_accepted_term»)) i ++ two-numbers (dataTerm (p .«proposal_data»)) i
     ++ two-numbers (piggybackTerm (p .piggyback)) i ++ two-numbers (dataTerm (piggybackData (p .piggyback))) i ++ l
+
+pub packet-places : (p : Packet) (l : List ℕ) → packetSize ≤ length (packetNumbers p ++ l)
+packet-places p l = omega (arith, ap length (one-by-one p l))
 
 term-formed : (o : Option ℕ) → formedTerm (given o) (term o) ≡ true
 unfolding formedTerm

@@ -80,7 +80,7 @@ fn piggyback_data(piggyback: Piggyback) -> Data
 }
 
 // A packet's numbers into the first places.
-pub fn put_packet(p: Packet, out: &mut [u64])
+pub fn put_numbers(p: Packet, out: &mut [u64])
     requires { ⌜ packetSize ≤ length (now out) ⌝ }
     ensures { λ _. ⌜ now (out .exit) ≡ sets (now (out .entry)) 0 (packetNumbers p) ⌝ }
 {

@@ -1,5 +1,5 @@
 // The result of a look ahead.
-use super::packets::put_packet;
+use super::packets::put_numbers;
 use preview::Preview;
 ghost use Prim.Native.Nat.{ℕ, _≤_};
 ghost use mathlib.Core.Path.{_≡_};
@@ -19,7 +19,7 @@ pub fn write_preview(answer: Preview, packet: &mut [u64], part: &mut [u64]) -> u
         Preview::Refused(k) => k,
         Preview::Seen(seen) => {
             let sent = seen.packet;
-            put_packet(sent, packet);
+            put_numbers(sent, packet);
             part[0] = seen.part;
             0
         }

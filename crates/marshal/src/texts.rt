@@ -1,6 +1,6 @@
 // The results of writing and of reading a packet's text.
 use super::packets::formed;
-use super::packets::put_packet;
+use super::packets::put_numbers;
 use super::packets::read_numbers;
 use wire::NO_TEXT;
 use wire::Writing;
@@ -42,7 +42,7 @@ pub fn write_reading(answer: Reading, packet: &mut [u64], flags: &mut [u64]) -> 
     match answer {
         Reading::Refused(k) => k,
         Reading::Packet(p, n) => {
-            put_packet(p, packet);
+            put_numbers(p, packet);
             flags[0] = n;
             0
         }

@@ -9,7 +9,7 @@ use native.Mathlib.Numerals.{add-one}
 use native.Mathlib.Omega.{arith}
 use lib.Count.{ones}
 use lib.Dec.{eqb, ltb}
-use lib.ListN.{length, getD, set, take, length-set, List·getD-eq-default}
+use lib.ListN.{length, getD, set, take, replicate, length-set, List·getD-eq-default}
 use lib.Seq.{take-suc-set, take-take, getD-take, getD-set-same, getD-set-other, length-take-le}
 use borrow.Author.Tests.{lt-ltb, le-ltb, ltb-true}
 use Rattle.config.specs.Limits.{maxTerms}
@@ -45,6 +45,20 @@ equal-or-not (suc k) zero = inr (λ p. omega (arith, p))
 equal-or-not (suc k) (suc i) = ⊎-elim (λ p. inl (ap suc p)) (λ q. inr (λ p. q (omega (arith, p)))) (equal-or-not k i)
 
 -- ---- states
+
+-- what holds of a state with nothing in it holds of every node's before the first round
+pub all-new : (Q : State → Type 0) → Q empty → (n j : ℕ) → Q (stateOf (replicate n empty) j)
+all-new Q q zero j = q
+all-new Q q (suc n) zero = q
+all-new Q q (suc n) (suc j) = all-new Q q n j
+
+-- and what holds of every node's, and of a new one, holds with that in its place
+pub all-set : (Q : State → Type 0) (states : List State) (i : ℕ) (s : State) → ((j : ℕ) → Q (stateOf states j)) → Q s → (j : ℕ) → Q (stateOf (set states i s) j)
+all-set Q [] i s all q j = all j
+all-set Q (x ∷ states) zero s all q zero = q
+all-set Q (x ∷ states) zero s all q (suc j) = all (suc j)
+all-set Q (x ∷ states) (suc i) s all q zero = all 0
+all-set Q (x ∷ states) (suc i) s all q (suc j) = all-set Q states i s (λ k. all (suc k)) q j
 
 pub state-at : (n : ℕ) (b : List ℕ) (j : ℕ) → j < n → stateOf (statesOf n b) j ≡ view b (firstOf j)
 unfolding statesOf

@@ -1,2 +1,3 @@
 -- The laws of a look ahead.
 pub mod Seen
+pub mod Texts

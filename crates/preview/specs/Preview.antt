@@ -1,5 +1,6 @@
--- A look ahead to one round of a run (rules 6.11, 9.3 and 12.6).
+-- A look ahead to one round of a run (rules 6.11, 9.3, 12.6 and 12.7).
 use Prim.Native.Nat.{ℕ, _<_, _≤_}
+use mathlib.Core.Bool.{true}
 use mathlib.Core.List.{List}
 use mathlib.Core.Option.{Option, none, some}
 use mathlib.Core.Path.{_≡_}
@@ -7,11 +8,13 @@ use lib.ListN.{getElem?}
 use Rattle.config.specs.declared.Config.{Config}
 use Rattle.metrics.specs.declared.summary.Summary.{Summary}
 use Rattle.rules.specs.declared.answer.Answer.the-variants.{Ran, Refused as Answer·Refused}
+use Rattle.rules.specs.declared.answer.SeenRound.{SeenRound}
 use Rattle.rules.specs.Networks.{RowsOrTopology}
 use Rattle.rules.specs.Questions.{refusalFor}
 use Rattle.rules.specs.Run.{Given, Past, pastIn, runFor, run}
 use Rattle.rules.specs.Entries.{givenFor, outcomeFor}
 use Rattle.rules.specs.Answers.{seenRound}
+use Rattle.wire.specs.Grammar.{hasText}
 use Rattle.preview.specs.declared.Preview.{Preview}
 use Rattle.preview.specs.declared.Preview.the-variants.{Seen, Refused}
 
@@ -62,3 +65,12 @@ RefusalsSeenAhead =
     outcomeFor q c logs records snapshots .answer ≡ Answer·Refused question →
     (question ≡ 10 → ⊥) →
     (k : ℕ) → previewFor q c k ≡ Refused question
+
+-- ---- what is seen can be written
+
+-- Every packet that a look ahead shows has a text, with as many flags as the run has nodes.
+abbrev pub SeenHaveTexts : Type 0
+SeenHaveTexts =
+    (q : RowsOrTopology) (c : Config) (k : ℕ) (seen : SeenRound) →
+    previewFor q c k ≡ Seen seen →
+    hasText (givenFor q c .nodes) (seen .packet) ≡ true

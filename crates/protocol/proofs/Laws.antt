@@ -26,11 +26,11 @@ use Rattle.protocol.proofs.Growing.{by-log, extends-trans, extends-logg
 
 -- ---- what the steps keep, the turns keep
 
--- Q is kept by each kind of step; D is what it asks of the data of a term that becomes pending.
-pub record Keeps (D : ℕ → Data → Type 0) (Q : State → Type 0) : Type 0 where
+-- Q is kept by each kind of step; D is what it asks of the data of a term that becomes pending, F of the votes that it gets then or later.
+pub record Keeps (D : ℕ → Data → Type 0) (F : ℕ → Type 0) (Q : State → Type 0) : Type 0 where
   pub commits : (t : ℕ) (s : State) → Q s → Q (commitTerm t s)
-  pub holds : (t v : ℕ) (d : Data) (s : State) → held t s ≡ false → D t d → Q s → Q (hold t v d s)
-  pub merges : (u f : ℕ) (s : State) → Q s → Q (mergeVotesUpTo u f s)
+  pub holds : (t v : ℕ) (d : Data) (s : State) → held t s ≡ false → D t d → F v → Q s → Q (hold t v d s)
+  pub merges : (u f : ℕ) (s : State) → F f → Q s → Q (mergeVotesUpTo u f s)
 
 abbrev pub AskData : (ℕ → Data → Type 0) → ℕ → Data → Type 0
 AskData D t Data.Empty = Unit {0}
@@ -40,7 +40,7 @@ abbrev pub AskBack : (ℕ → Data → Type 0) → Piggyback → Type 0
 AskBack D Piggyback.None = Unit {0}
 AskBack D (Piggyback.Of t d) = D (t .0) d
 
-module _ (D : ℕ → Data → Type 0) (Q : State → Type 0) (k : Keeps D Q) where
+module _ (D : ℕ → Data → Type 0) (F : ℕ → Type 0) (Q : State → Type 0) (k : Keeps D F Q) where
   below-keeps : (n : ℕ) (s : State) → Q s → Q (commitBelow n s)
   unfolding commitBelow
   below-keeps zero s q = q
@@ -51,71 +51,74 @@ module _ (D : ℕ → Data → Type 0) (Q : State → Type 0) (k : Keeps D Q) wh
   to-keeps LastAccepted.None s q = q
   to-keeps (LastAccepted.At u) s q = below-keeps (suc (u .0)) s q
 
-  new-keeps : (t v : ℕ) (d : Data) (s : State) → D t d → Q s → Q (holdNew t v d s)
+  new-keeps : (t v : ℕ) (d : Data) (s : State) → D t d → F v → Q s → Q (holdNew t v d s)
   unfolding holdNew
-  new-keeps t v d s a q = go (held t s) refl
+  new-keeps t v d s a w q = go (held t s) refl
     where
       go : (b : Bool) → held t s ≡ b → Q (cond b s (hold t v d s))
       go true e = q
-      go false e = k .holds t v d s e a q
+      go false e = k .holds t v d s e a w q
 
-  data-keeps : (t v : ℕ) (d : Data) (s : State) → AskData D t d → Q s → Q (takeData t v d s)
+  data-keeps : (t v : ℕ) (d : Data) (s : State) → AskData D t d → F v → Q s → Q (takeData t v d s)
   unfolding takeData
-  data-keeps t v Data.Empty s a q = q
-  data-keeps t v (Data.Of u) s a q = new-keeps t v (Data.Of u) s a q
+  data-keeps t v Data.Empty s a w q = q
+  data-keeps t v (Data.Of u) s a w q = new-keeps t v (Data.Of u) s a w q
 
-  back-keeps : (v : ℕ) (pb : Piggyback) (s : State) → AskBack D pb → Q s → Q (takePiggyback v pb s)
+  back-keeps : (v : ℕ) (pb : Piggyback) (s : State) → AskBack D pb → F v → Q s → Q (takePiggyback v pb s)
   unfolding takePiggyback
-  back-keeps v Piggyback.None s a q = q
-  back-keeps v (Piggyback.Of t d) s a q = new-keeps (t .0) v d s a q
+  back-keeps v Piggyback.None s a w q = q
+  back-keeps v (Piggyback.Of t d) s a w q = new-keeps (t .0) v d s a w q
 
-  pub votes-keeps : (i : ℕ) (p : Packet) (s : State) → AskData D (p .«current_term» .0) (p .«proposal_data») → Q s → Q (takeVotes i p s)
-  unfolding takeVotes
-  votes-keeps i p s a q =
-      k .merges (p .«current_term» .0) (vote i) _
-      (k .merges (p .«current_term» .0) (p .«flags_bitmap») _
-      (data-keeps (p .«current_term» .0) (p .«flags_bitmap») (p .«proposal_data») _ a
-      (to-keeps (p .«last_accepted_term») s q)))
+  module _ (i : ℕ) (own : F (vote i)) where
+    pub votes-keeps : (p : Packet) (s : State) → F (p .«flags_bitmap») → AskData D (p .«current_term» .0) (p .«proposal_data») → Q s → Q (takeVotes i p s)
+    unfolding takeVotes
+    votes-keeps p s w a q =
+        k .merges (p .«current_term» .0) (vote i) _ own
+        (k .merges (p .«current_term» .0) (p .«flags_bitmap») _ w
+        (data-keeps (p .«current_term» .0) (p .«flags_bitmap») (p .«proposal_data») _ a w
+        (to-keeps (p .«last_accepted_term») s q)))
 
-  pub participant-keeps : (i : ℕ) (p : Packet) (s : State) → AskData D (p .«current_term» .0) (p .«proposal_data») →
-      AskBack D (p .piggyback) → Q s → Q (participantTurn i p s .state)
-  unfolding participantTurn
-  participant-keeps i p s a b q = back-keeps (vote i) (p .piggyback) (takeVotes i p s) b (votes-keeps i p s a q)
+    pub participant-keeps : (p : Packet) (s : State) → F (p .«flags_bitmap») → AskData D (p .«current_term» .0) (p .«proposal_data») →
+        AskBack D (p .piggyback) → Q s → Q (participantTurn i p s .state)
+    unfolding participantTurn
+    participant-keeps p s w a b q = back-keeps (vote i) (p .piggyback) (takeVotes i p s) b own (votes-keeps p s w a q)
 
-  propose-keeps : (b : Bool) (i c : ℕ) (s : State) → held c s ≡ false → D c (dataFor c) → Q s → Q (propose b i c s)
-  propose-keeps true i c s e a q = k .holds c (vote i) (dataFor c) s e a q
-  propose-keeps false i c s e a q = q
+    propose-keeps : (b : Bool) (c : ℕ) (s : State) → held c s ≡ false → (b ≡ true → D c (dataFor c)) → Q s → Q (propose b i c s)
+    propose-keeps true c s e a q = k .holds c (vote i) (dataFor c) s e (a refl) own q
+    propose-keeps false c s e a q = q
 
-  -- the term of the counter is held by no node before it is proposed
-  pub initiator-keeps : (i n c : ℕ) (b : Bool) (pb : Piggyback) (s : State) → held c s ≡ false → D c (dataFor c) → Q s →
-      Q (initiatorTurn i n c b pb s .state)
-  unfolding initiatorTurn announce
-  initiator-keeps i n c b pb s e a q =
-      to-keeps (quorumTerm n (propose b i c s)) (propose b i c s) (propose-keeps b i c s e a q)
+    -- the term of the counter is held by no node before it is proposed
+    pub initiator-keeps : (n c : ℕ) (b : Bool) (pb : Piggyback) (s : State) → held c s ≡ false → (b ≡ true → D c (dataFor c)) → Q s →
+        Q (initiatorTurn i n c b pb s .state)
+    unfolding initiatorTurn announce
+    initiator-keeps n c b pb s e a q = to-keeps (quorumTerm n (propose b i c s)) (propose b i c s) (propose-keeps b c s e a q)
 
 -- ---- a turn never removes a term from a log or reorders it
 
 abbrev pub AnyData : ℕ → Data → Type 0
 AnyData t d = Unit {0}
 
-pub log-extends : (l : List LogEntry) → Keeps AnyData (λ s. Extends l (s .log))
+abbrev pub AnyVotes : ℕ → Type 0
+AnyVotes v = Unit {0}
+
+pub log-extends : (l : List LogEntry) → Keeps AnyData AnyVotes (λ s. Extends l (s .log))
 unfolding hold mergeVotesUpTo
 log-extends l =
     record {
       commits = λ t s q. extends-trans l (s .log) (commitTerm t s .log) q (term-extends t s);
-      holds = λ t v d s e a q. q;
-      merges = λ u f s q. q;
+      holds = λ t v d s e a w q. q;
+      merges = λ u f s w q. q;
     }
 
 -- ---- last accepted never falls
 
-pub last-rises : (l : LastAccepted) → Keeps AnyData (λ s. Rises l (s .last))
+pub last-rises : (l : LastAccepted) → Keeps AnyData AnyVotes (λ s. Rises l (s .last))
 unfolding hold mergeVotesUpTo
 last-rises l =
     record {
       commits = λ t s q. rises-trans l (s .last) (commitTerm t s .last) q (term-rises t s);
-      holds = λ t v d s e a q. q;
-      merges = λ u f s q. q;
+      holds = λ t v d s e a w q. q;
+      merges = λ u f s w q. q;
     }
 
 -- ---- votes only grow while pending
@@ -128,15 +131,15 @@ entry-logged : (t : ℕ) (q : Pending) → logged t (logEntry t (some q)) ≡ tr
 unfolding logged
 entry-logged t q = ap (λ (b : Bool). b || false) (eq-eqb t t refl)
 
-pub votes-stand : (t : ℕ) (p : Pending) → Keeps AnyData (StaysPending t p)
+pub votes-stand : (t : ℕ) (p : Pending) → Keeps AnyData AnyVotes (StaysPending t p)
 unfolding hold mergeVotesUpTo
 votes-stand t p =
     record {
       commits = λ u s q. by-log (StaysPending t p) u s (λ e. q) (λ e. entered u s (either (eqb t u)) q);
-      holds = λ u v d s e a q.
+      holds = λ u v d s e a w q.
           let other = ne-eqb t u (λ g. true≢false (sym (held-stands t p s q) ∙ ap (λ (j : ℕ). held j s) g ∙ e)) in
           holding u v d s other q;
-      merges = λ u f s q. merging u f s (leb t u) refl q;
+      merges = λ u f s w q. merging u f s (leb t u) refl q;
     }
   where
     entered : (u : ℕ) (s : State) → (eqb t u ≡ true) ⊎ (eqb t u ≡ false) → StaysPending t p s →
@@ -179,14 +182,14 @@ votes-stand t p =
 
 -- ---- no log repeats a term, and no term is both logged and pending
 
-pub kept-apart : Keeps AnyData Apart
+pub kept-apart : Keeps AnyData AnyVotes Apart
 unfolding hold mergeVotesUpTo
 kept-apart =
     record {
       commits = λ t s q. by-log Apart t s (λ e. q)
           (λ e. record { distinct = entering t (s .log) (s .pending t) e (q .distinct); apart = λ j h. entered t s q j h (either (eqb j t)) });
-      holds = λ t v d s e a q. record { distinct = q .distinct; apart = λ j h. holding t v d s e q j h (either (eqb j t)) };
-      merges = λ u f s q. record { distinct = q .distinct; apart = λ j h. ap (voted (leb j u) f) (q .apart j h) };
+      holds = λ t v d s e a w q. record { distinct = q .distinct; apart = λ j h. holding t v d s e q j h (either (eqb j t)) };
+      merges = λ u f s w q. record { distinct = q .distinct; apart = λ j h. ap (voted (leb j u) f) (q .apart j h) };
     }
   where
     entering : (t : ℕ) (l : List LogEntry) (o : Option Pending) → logged t l ≡ false → Distinct l → Distinct (l ++ logEntry t o)
@@ -215,7 +218,7 @@ kept-apart =
 abbrev pub OwnD : ℕ → Data → Type 0
 OwnD t d = d ≡ dataFor t
 
-pub kept-own : Keeps OwnD Own
+pub kept-own : Keeps OwnD AnyVotes Own
 unfolding hold mergeVotesUpTo ownLog
 kept-own =
     record {
@@ -224,13 +227,13 @@ kept-own =
             log = entering t (s .pending t) (s .log) (q .pending t) (q .log);
             pending = λ j. same-or (λ (b : Bool). ownPending j (cond b none (s .pending j))) j t (λ g. tt) (λ g. q .pending j);
           });
-      holds = λ t v d s e a q.
+      holds = λ t v d s e a w q.
           record {
             log = q .log;
             pending = λ j. same-or (λ (b : Bool). ownPending j (cond b (some (record { votes = v; «data» = d })) (s .pending j))) j t
                 (λ g. a ∙ ap dataFor (sym g)) (λ g. q .pending j);
           };
-      merges = λ u f s q. record { log = q .log; pending = λ j. voting j (leb j u) f (s .pending j) (q .pending j) };
+      merges = λ u f s w q. record { log = q .log; pending = λ j. voting j (leb j u) f (s .pending j) (q .pending j) };
     }
   where
     entering : (t : ℕ) (o : Option Pending) (l : List LogEntry) → ownPending t o → ownLog l → ownLog (l ++ logEntry t o)

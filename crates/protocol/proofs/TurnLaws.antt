@@ -28,7 +28,7 @@ use Rattle.protocol.proofs.Frame.{logged-word}
 use Rattle.protocol.proofs.Kept.{pending-none}
 use Rattle.protocol.proofs.Steps.{held-free}
 use Rattle.protocol.proofs.Growing.{extends-refl, rises-refl}
-use Rattle.protocol.proofs.Laws.{Keeps, AskData, AskBack, AnyData, OwnD, participant-keeps, votes-keeps, initiator-keeps, log-extends, last-rises, votes-stand, kept-apart, kept-own}
+use Rattle.protocol.proofs.Laws.{Keeps, AskData, AskBack, AnyData, AnyVotes, OwnD, participant-keeps, votes-keeps, initiator-keeps, log-extends, last-rises, votes-stand, kept-apart, kept-own}
 
 -- ---- what a kept state says
 
@@ -71,18 +71,18 @@ log-full {c} {b} {at} k e t h = k .logged-is t ∙ go (has (loggedSet b at) t) r
 
 -- ---- a participant's turn
 
-any-data : (t : ℕ) (d : Data) → AskData AnyData t d
+pub any-data : (t : ℕ) (d : Data) → AskData AnyData t d
 any-data t Data.Empty = tt
 any-data t (Data.Of u) = tt
 
-any-back : (pb : Piggyback) → AskBack AnyData pb
+pub any-back : (pb : Piggyback) → AskBack AnyData pb
 any-back Piggyback.None = tt
 any-back (Piggyback.Of t d) = tt
 
 module _ (i : ℕ) (p : Packet) (s : State) where
-  kept : (Q : State → Type 0) → Keeps AnyData Q → Q s → Q (participantTurn i p s .state)
+  kept : (Q : State → Type 0) → Keeps AnyData AnyVotes Q → Q s → Q (participantTurn i p s .state)
   kept Q k q =
-      participant-keeps AnyData Q k i p s (any-data (p .«current_term» .0) (p .«proposal_data»)) (any-back (p .piggyback)) q
+      participant-keeps AnyData AnyVotes Q k i tt p s tt (any-data (p .«current_term» .0) (p .«proposal_data»)) (any-back (p .piggyback)) q
 
   pub participant-log : Extends (s .log) (participantTurn i p s .state .log)
   participant-log = kept (λ x. Extends (s .log) (x .log)) (log-extends (s .log)) (extends-refl (s .log))
@@ -99,8 +99,8 @@ module _ (i : ℕ) (p : Packet) (s : State) where
 -- ---- the initiator's turn
 
 module _ (i n c : ℕ) (b : Bool) (pb : Piggyback) (s : State) (free : held c s ≡ false) where
-  made : (Q : State → Type 0) → Keeps AnyData Q → Q s → Q (initiatorTurn i n c b pb s .state)
-  made Q k q = initiator-keeps AnyData Q k i n c b pb s free tt q
+  made : (Q : State → Type 0) → Keeps AnyData AnyVotes Q → Q s → Q (initiatorTurn i n c b pb s .state)
+  made Q k q = initiator-keeps AnyData AnyVotes Q k i tt n c b pb s free (λ _. tt) q
 
   pub initiator-log : Extends (s .log) (initiatorTurn i n c b pb s .state .log)
   initiator-log = made (λ x. Extends (s .log) (x .log)) (log-extends (s .log)) (extends-refl (s .log))
@@ -115,7 +115,7 @@ module _ (i n c : ℕ) (b : Bool) (pb : Piggyback) (s : State) (free : held c s 
   initiator-apart = made Apart kept-apart
 
   pub initiator-own : Own s → Own (initiatorTurn i n c b pb s .state)
-  initiator-own = initiator-keeps OwnD Own kept-own i n c b pb s free refl
+  initiator-own = initiator-keeps OwnD AnyVotes Own kept-own i tt n c b pb s free (λ _. refl)
 
 -- ---- own data in packets
 
@@ -129,7 +129,7 @@ ask-back (Piggyback.Of t d) h = h
 
 pub participant-own : (i : ℕ) (p : Packet) (s : State) → OwnPacket p → Own s → Own (participantTurn i p s .state)
 participant-own i p s o h =
-    participant-keeps OwnD Own kept-own i p s (ask-data (p .«current_term» .0) (p .«proposal_data») (o .proposal))
+    participant-keeps OwnD AnyVotes Own kept-own i tt p s tt (ask-data (p .«current_term» .0) (p .«proposal_data») (o .proposal))
     (ask-back (p .piggyback) (o .back)) h
 
 ownFound : ℕ → Option Data → Type 0
@@ -159,7 +159,7 @@ pub participant-recovered : (i : ℕ) (p : Packet) (s : State) → OwnPacket p �
 unfolding participantTurn
 participant-recovered i p s o h =
     recovery-own (p .«nack_term») (takeVotes i p s)
-    (votes-keeps OwnD Own kept-own i p s (ask-data (p .«current_term» .0) (p .«proposal_data») (o .proposal)) h)
+    (votes-keeps OwnD AnyVotes Own kept-own i tt p s tt (ask-data (p .«current_term» .0) (p .«proposal_data») (o .proposal)) h)
 
 own-proposal : (b : Bool) (c : ℕ) → ownData (currentTerm b c) (proposalData b c)
 own-proposal true c = refl

@@ -41,6 +41,11 @@ accepts {graph} {n} {d} c graph-is e =
       interval = q .interval;
     }
 
+-- what questions 1 to 9 let pass
+pub accepted-for : (q : RowsOrTopology) (c : Config) → refusalFor q c ≡ none → Accepted (givenFor q c)
+unfolding refusalFor
+accepted-for q c e = let yes = both-none (networkQuestions q) (configQuestions c) e in accepts c (network-measured q (yes .0)) (yes .1)
+
 roomy : (logs records : List ℕ) → firstNo (bufferQuestions (length logs) (length records)) ≡ none → Roomy logs records
 roomy logs records e = let long = buffer-facts (length logs) (length records) e in record { for-logs = long .0; for-records = long .1 }
 
@@ -72,9 +77,10 @@ admitted q c logs records snapshots s e =
     let r = ran-so (runRefusalFor q c (length logs) (length records)) g logs records snapshots s e in
     let yes = both-none (networkQuestions q) (runQuestions c (length logs) (length records)) (r .0) in
     let pass = both-none (configQuestions c) (bufferQuestions (length logs) (length records)) (yes .1) in
+    let passes : refusalFor q c ≡ none = network-yes q c (yes .0) ∙ pass .0 in
     record {
-      passes = network-yes q c (yes .0) ∙ pass .0;
-      accepted = accepts c (network-measured q (yes .0)) (pass .0);
+      passes = passes;
+      accepted = accepted-for q c passes;
       roomy = roomy logs records (pass .1);
       ran = ap (λ (o : Option ℕ). outcomeOf o g logs records snapshots) (r .0);
       summary = r .1;

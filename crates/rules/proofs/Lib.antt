@@ -19,6 +19,7 @@
 --     Tallies      what the nodes share grows by little in a round
 --     RunBounds    bounds on the counts of every accepted run
 --     Coverage     the covered nodes of a round are those that took part
+--     SentPackets  the packets of every accepted run
 pub mod FirstNo
 pub mod Found
 pub mod Rounds
@@ -39,3 +40,4 @@ pub mod NothingLost
 pub mod Tallies
 pub mod RunBounds
 pub mod Coverage
+pub mod SentPackets

@@ -1,10 +1,10 @@
 -- Bounds on the counts of every accepted run. Assumes nothing.
-use Prim.Native.Nat.{ℕ, zero, suc, _+_, _-_, _*_, _/_, _≤_, _<_, zero-le}
+use Prim.Native.Nat.{ℕ, suc, _+_, _-_, _*_, _/_, _≤_, _<_, zero-le}
 use mathlib.Core.List.{[], _∷_}
 use mathlib.Core.Path.{_≡_, refl, sym, ap, _∙_, subst}
 use native.Mathlib.Nat.{mul-le-mul, mul-le-mul-right, div-le-of-le-mul}
 use native.Mathlib.Omega.{arith}
-use lib.ListN.{length, replicate, length-append, getD-replicate}
+use lib.ListN.{length, length-append, getD-replicate}
 use Rattle.network.proofs.Sets.{count-le}
 use Rattle.phy.specs.Node.{new, total}
 use Rattle.phy.specs.Slot.{Setup, at}
@@ -12,9 +12,9 @@ use Rattle.phy.specs.Round.{Flooded, round}
 use Rattle.phy.proofs.Counts.{all-slots, round-most, counted-round}
 use Rattle.phy.proofs.Due.{Due, due-none, due-round, due-count}
 use Rattle.phy.proofs.Tries.{Tallied, tallied-none, tallied-then, successes-most}
-use Rattle.protocol.specs.Paxos.{empty}
 use Rattle.metrics.specs.declared.summary.Summary.{Summary}
-use Rattle.pipeline.specs.Round.{Prepared, stateOf, recorded, initiatorOf, prepareRound, processRound}
+use Rattle.pipeline.specs.Round.{Prepared, recorded, initiatorOf, prepareRound, processRound}
+use Rattle.pipeline.proofs.Sharing.{all-new}
 use Rattle.rules.specs.Accepted.{Accepted}
 use Rattle.config.specs.Limits.{mostRounds}
 use Rattle.rules.specs.Run.{runFor, Given, Past, Running, begin, setupOf, runRound, run}
@@ -45,14 +45,9 @@ module _ (g : Given) (pos : 1 ≤ g .interval) where
         totals = λ j h. ap total (getD-replicate (g .nodes) j new new h);
         tallied = tallied-none (g .nodes) (g .heard) (begin g .standing);
         covered = zero-le;
-        few = record { nacks = zero-le; piggybacks = zero-le; filed = zero-le; low = all-low (g .nodes) };
+        few = record { nacks = zero-le; piggybacks = zero-le; filed = zero-le; low = all-new Low tt (g .nodes) };
         due = due-none (g .interval) (begin g .standing .shots) pos refl refl;
       }
-    where
-      all-low : (n j : ℕ) → Low (stateOf (replicate n empty) j)
-      all-low zero j = tt
-      all-low (suc n) zero = tt
-      all-low (suc n) (suc j) = all-low n j
 
   within-next : (k : ℕ) (r : Running) → Within g k r → Within g (suc k) (runRound g k r)
   unfolding runRound

@@ -8,7 +8,7 @@ use mathlib.Core.Path.{refl, sym, ap, _∙_, subst}
 use native.Mathlib.Omega.{arith}
 use borrow.Author.Tests.{eq-eqb}
 use lib.Dec.{eqb, ltb}
-use lib.ListN.{length, getD, set, length-append}
+use lib.ListN.{length, getD, length-append}
 use Rattle.network.specs.Graph.{has, count}
 use Rattle.network.proofs.Sets.{two, or-right, count-lt}
 use Rattle.phy.specs.declared.packet.Data.{Data}
@@ -20,7 +20,7 @@ use Rattle.protocol.specs.Turns.{propose, announce, initiatorTurn, takeData, ta
 use Rattle.protocol.specs.View.{lastBelow}
 use Rattle.pipeline.specs.Round.{Record, Shared, stateOf, recorded, recordAll, prepareRound, takeTurn, turns, cleared, processRound}
 use Rattle.pipeline.proofs.Recordings.{recorded-append, recordAll-append, record-known, record-new}
-use Rattle.pipeline.proofs.Sharing.{greatest-below, nack-at-most, one-at-most}
+use Rattle.pipeline.proofs.Sharing.{all-set, greatest-below, nack-at-most, one-at-most}
 
 -- ---- no more records than terms below 64 that are recorded
 
@@ -102,11 +102,11 @@ unfolding takePiggyback
 low-piggyback v Piggyback.None s l = l
 low-piggyback v (Piggyback.Of t d) s l = low-new (t .0) v d s l
 
-low-initiator : (i n c : ℕ) (b : Bool) (pb : Piggyback) (s : State) → Low s → Low (initiatorTurn i n c b pb s .state)
+pub low-initiator : (i n c : ℕ) (b : Bool) (pb : Piggyback) (s : State) → Low s → Low (initiatorTurn i n c b pb s .state)
 unfolding initiatorTurn announce
 low-initiator i n c b pb s l = low-to (greatestQuorum 64 n (propose b i c s)) (propose b i c s) (greatest-below 64 n (propose b i c s)) (low-propose b i c s l)
 
-low-participant : (i : ℕ) (p : Packet) (s : State) → lastBelow 64 (p .«last_accepted_term») → Low s → Low (participantTurn i p s .state)
+pub low-participant : (i : ℕ) (p : Packet) (s : State) → lastBelow 64 (p .«last_accepted_term») → Low s → Low (participantTurn i p s .state)
 unfolding participantTurn takeVotes mergeVotesUpTo
 low-participant i p s h l =
     low-piggyback (vote i) (p .piggyback) _ (low-data (p .«current_term» .0) (p .«flags_bitmap») (p .«proposal_data») (commitTo (p .«last_accepted_term») s) (low-to (p .«last_accepted_term») s h l))
@@ -114,13 +114,6 @@ low-participant i p s h l =
 -- all states
 abbrev pub AllLow : List State → Type 0
 AllLow states = (j : ℕ) → Low (stateOf states j)
-
-low-set : (states : List State) (i : ℕ) (s : State) → AllLow states → Low s → AllLow (set states i s)
-low-set [] i s all l j = all j
-low-set (x ∷ states) zero s all l zero = l
-low-set (x ∷ states) zero s all l (suc j) = all (suc j)
-low-set (x ∷ states) (suc i) s all l zero = all 0
-low-set (x ∷ states) (suc i) s all l (suc j) = low-set states i s (λ k. all (suc k)) l j
 
 -- ---- from turn to turn
 
@@ -140,7 +133,7 @@ few-prepared n proposals i slot a b s f =
       nacks = omega (arith, f .nacks, nack-at-most (initiatorTurn i n (s .counter) proposes (s .piggyback) (stateOf (s .states) i) .packet .«nack_term»));
       piggybacks = f .piggybacks;
       filed = few-to _ slot (greatestQuorum 64 n now) (now .log) (s .records) (greatest-below 64 n now) (f .filed);
-      low = low-set (s .states) i _ (f .low) (low-initiator i n (s .counter) proposes (s .piggyback) (stateOf (s .states) i) (f .low i));
+      low = all-set Low (s .states) i _ (f .low) (low-initiator i n (s .counter) proposes (s .piggyback) (stateOf (s .states) i) (f .low i));
     }
 
 -- the packet's last accepted term is that of the initiator
@@ -156,7 +149,7 @@ module _ (packet : Packet) (slot part : ℕ) (h : lastBelow 64 (packet .«last_a
         nacks = f .nacks;
         piggybacks = omega (arith, f .piggybacks, one-at-most (participantTurn j packet (stateOf (s .states) j) .recovered));
         filed = few-to (s .starts) slot (packet .«last_accepted_term») (stateOf (s .states) j .log) (s .records) h (f .filed);
-        low = low-set (s .states) j _ (f .low) (low-participant j packet (stateOf (s .states) j) h (f .low j));
+        low = all-set Low (s .states) j _ (f .low) (low-participant j packet (stateOf (s .states) j) h (f .low j));
       }
 
   few-turns : (a b m : ℕ) (s : Shared) → Few a b s → Few a (b + m) (turns packet slot part m s)

@@ -9,6 +9,7 @@
 --     NothingLost  when a run has lost nothing
 --     RunBounds    bounds on the counts of every accepted run
 --     Coverage     the covered nodes of a round are those that took part
+--     SentPackets  the packets of every accepted run
 pub mod Run
 pub mod Networks
 pub mod Questions
@@ -19,3 +20,4 @@ pub mod ExactRounds
 pub mod NothingLost
 pub mod RunBounds
 pub mod Coverage
+pub mod SentPackets

@@ -1,9 +1,9 @@
--- What a packet that has a text fits. Assumes nothing.
+-- What a packet that has a text fits, as facts. Assumes nothing.
 use Prim.Native.Nat.{ℕ, _^_, _≤_, _<_}
 use mathlib.Core.Path.{_≡_, refl}
 use mathlib.Core.Bool.{true}
 use native.Mathlib.Omega.{arith}
-use borrow.Author.Tests.{eqb-true, leb-true, lt-ltb, ltb-true}
+use borrow.Author.Tests.{eqb-true, le-leb, leb-true, lt-ltb, ltb-true}
 use Rattle.config.specs.Limits.{maxNodes, maxTerms, minNodes}
 use Rattle.network.specs.declared.units.Term.{Term}
 use Rattle.network.proofs.Sets.{and-both}
@@ -56,6 +56,16 @@ terms-fitting p h =
 pub fitting : (n : ℕ) (p : Packet) → hasText n p ≡ true → FlagsFit n p × TermsFit p
 unfolding hasText
 fitting n p h = let both = and-both (flagsFit n p) (termsFit p) h in (flags-fitting n p (both .0), terms-fitting p (both .1))
+
+pub has-text : (n : ℕ) (p : Packet) → FlagsFit n p → TermsFit p → hasText n p ≡ true
+unfolding hasText
+has-text n p f g =
+    let least = le-leb minNodes n (f .least) in
+    let most = le-leb n maxNodes (f .most) in
+    let set = lt-ltb (p .«flags_bitmap») (2 ^ n) (f .set) in
+    let sender = lt-ltb (p .sender .0) n (f .sender) in
+    let current = lt-ltb (p .«current_term» .0) maxTerms (g .current) in
+    rw (least, most, set, sender, current, g .last, g .nack, g .own, g .again)
 
 -- data of a term below 64
 pub data-below : (t : Term) (d : Data) → t .0 < maxTerms → dataFits t d ≡ true → dataBelow d ≡ true

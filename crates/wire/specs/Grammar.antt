@@ -102,7 +102,7 @@ headerText n p =
     ++ ascii ",\"nack_term\":" ++ spelled (nackNumber (p .«nack_term»))
     ++ ascii ",\"sender\":" ++ spelled (p .sender .0)
 
--- and those behind it
+-- the fields behind the sender, and the closing brace
 unfoldable pub bodyText : Packet → List ℕ
 bodyText p =
     ascii ",\"proposal_data\":" ++ dataText (p .«proposal_data»)
@@ -112,7 +112,7 @@ bodyText p =
 unfoldable pub packetText : ℕ → Packet → List ℕ
 packetText n p = headerText n p ++ bodyText p
 
--- How many bytes each part has at most: a number here is below 100.
+-- How many bytes each part has at most. A number of the text is below 100; the bare numbers are the lengths of the words in between.
 abbrev pub smallMost : ℕ
 smallMost = 2
 

@@ -9,11 +9,12 @@ use Rattle.text.specs.Text.{ascii, spelled}
 use Rattle.phy.specs.declared.packet.Data.{Data}
 use Rattle.wire.specs.Grammar.{behindCommas, flagText}
 
--- flag i, behind the bracket or a comma
+-- what stands in front of flag i: the bracket or a comma
 abbrev pub mark : ℕ → List ℕ
 mark zero = ascii "["
 mark (suc i) = ascii ","
 
+-- flag i with its mark
 abbrev pub markedFlag : ℕ → ℕ → List ℕ
 markedFlag set i = mark i ++ flagText (has set i)
 

@@ -10,7 +10,7 @@ use Rattle.phy.specs.declared.packet.Packet.{Packet}
 use Rattle.wire.specs.Grammar.{hasText, packetText, textMost}
 use Rattle.wire.specs.declared.Writing.{Writing}
 
--- the text, or the packet, is none of these, or the buffer is too short for the text
+-- the refusal's number: the bytes are no packet's text, the packet has no text, or the buffer is too short for it
 abbrev pub noText : ℕ
 noText = 14
 

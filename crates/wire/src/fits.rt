@@ -60,7 +60,7 @@ fn piggyback_fits(piggyback: Piggyback) -> bool
     }
 }
 
-// Whether there are 2 to 32 flags, none stands behind them, and the sender has one of them.
+// Whether there are 2 to 32 flags, no node behind them is in the set, and the sender is below their number.
 fn flags_fit(packet: Packet, flags: u64) -> bool
     ensures { λ r. ⌜ r ≡ flagsFit flags packet ⌝ }
 {

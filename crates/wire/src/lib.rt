@@ -18,7 +18,7 @@ pub enum Writing {
     Refused(u64),
 }
 
-// The text or the packet is none of these, or the buffer is too short for the text.
+// The bytes are no packet's text, the packet has no text, or the buffer is too short for it.
 pub const NO_TEXT: u64 = 14;
 
 // Writes a packet's text to the start of a buffer. A refusal writes nothing.

@@ -148,7 +148,7 @@ fn put_header(packet: Packet, flags: usize, out: &mut [u8], at: usize) -> usize
     put_small(packet.sender.0 as u64, out, i)
 }
 
-// The fields behind it.
+// The fields behind the sender, and the closing brace.
 fn put_body(packet: Packet, out: &mut [u8], at: usize) -> usize
     requires { ⌜ (termsFit packet ≡ true) × Room at (bodyMost + numberMost) ⌝ }
     ensures { λ r. ⌜ Laid bodyMost (now (out .entry)) at (bodyText packet) (now (out .exit)) r ⌝ }

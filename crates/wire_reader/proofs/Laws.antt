@@ -9,7 +9,7 @@ use native.Mathlib.Omega.{arith}
 use lib.Dec.{leb}
 use lib.ListN.{length, take}
 use lib.Seq.{sets}
-use borrow.Author.Tests.{lt-ltb, ltb-true, le-leb, leb-true}
+use borrow.Author.Tests.{le-leb, leb-true}
 use Rattle.config.specs.Limits.{minNodes, maxNodes, maxTerms}
 use Rattle.network.specs.Graph.{setOf}
 use Rattle.network.proofs.Sets.{and-both}
@@ -21,13 +21,14 @@ use Rattle.phy.specs.declared.packet.Packet.{Packet}
 use Rattle.text.proofs.Overlays.{front-is}
 use Rattle.text.specs.Text.{ascii, spelled, spelledIn}
 use Rattle.text.specs.Numeral.{digit}
-use Rattle.wire.specs.Grammar.{lastAcceptedFits, nackFits, dataFits, piggybackFits, flagsFit, termsFit, hasText, dataBytes, behindCommas, array, flagsText, lastAcceptedText, nackNumber, dataText, piggybackText, headerText, bodyText, packetText}
+use Rattle.wire.specs.Grammar.{lastAcceptedFits, nackFits, dataFits, piggybackFits, hasText, dataBytes, behindCommas, array, flagsText, lastAcceptedText, nackNumber, dataText, piggybackText, headerText, bodyText, packetText}
 use Rattle.wire_reader.specs.Reader.{behind, give, _>>=_, behindWord, _orElse_, below, secondDigit, number, lastAccepted, flag, flagsIn, counted, flags, dataOf, piggyback, header, body, packetOf, packet}
 use Rattle.wire.specs.Writing.{noText, writing}
 use Rattle.wire_reader.specs.Reading.{nothingBehind, reading, ExactlyTheTexts, WhatIsWrittenIsRead, WhatIsReadIsWritten, TextsTellApart}
 use Rattle.wire_reader.specs.declared.fields.Header.{Header}
 use Rattle.wire_reader.specs.declared.fields.Body.{Body}
 use Rattle.wire.specs.declared.Writing.{Writing}
+use Rattle.wire.proofs.Fitting.{fitting, has-text}
 use Rattle.wire_reader.specs.declared.Reading.{Reading}
 use Rattle.wire_reader.proofs.Words.{word-reads, bind-reads, field-reads, Only, give-finds, word-finds, bind-finds, field-finds}
 use Rattle.wire_reader.proofs.Digits.{stops, number-reads, number-only}
@@ -51,37 +52,24 @@ record BodyFits (h : Header) (b : Body) : Type 0 where
   again : piggybackFits (b .piggyback) ≡ true
 
 fits-both : (h : Header) (b : Body) → hasText (h .flags) (packetOf h b) ≡ true → HeaderFits h × BodyFits h b
-unfolding hasText
 fits-both h b e =
-    let (flags, terms) = and-both (flagsFit (h .flags) (packetOf h b)) (termsFit (packetOf h b)) e in
-    let (flags₁, from) = and-both _ _ flags in
-    let (flags₂, set) = and-both _ _ flags₁ in
-    let (least, most) = and-both _ _ flags₂ in
-    let (terms₁, again) = and-both _ _ terms in
-    let (terms₂, own) = and-both _ _ terms₁ in
-    let (terms₃, asked) = and-both _ _ terms₂ in
-    let (current, last) = and-both _ _ terms₃ in (
+    let (flags, terms) = fitting (h .flags) (packetOf h b) e in (
       record {
-        least = leb-true _ _ least;
-        most = leb-true _ _ most;
-        set = ltb-true _ _ set;
-        from = ltb-true _ _ from;
-        current = ltb-true _ _ current;
-        last = last;
-        asked = asked;
+        least = flags .least;
+        most = flags .most;
+        set = flags .set;
+        from = flags .sender;
+        current = terms .current;
+        last = terms .last;
+        asked = terms .nack;
       },
-      record { own = own; again = again },
+      record { own = terms .own; again = terms .again },
     )
 
 both-fit : (h : Header) (b : Body) → HeaderFits h → BodyFits h b → hasText (h .flags) (packetOf h b) ≡ true
-unfolding hasText
 both-fit h b f g =
-    let least = le-leb minNodes (h .flags) (f .least) in
-    let most = le-leb (h .flags) maxNodes (f .most) in
-    let set = lt-ltb (h .«flags_bitmap») (2 ^ h .flags) (f .set) in
-    let from = lt-ltb (h .sender .0) (h .flags) (f .from) in
-    let current = lt-ltb (h .«current_term» .0) maxTerms (f .current) in
-    rw (least, most, set, from, current, f .last, f .asked, g .own, g .again)
+    has-text (h .flags) (packetOf h b) (record { least = f .least; most = f .most; set = f .set; sender = f .from })
+    (record { current = f .current; last = f .last; nack = f .asked; own = g .own; again = g .again })
 
 -- ---- the header
 

@@ -121,7 +121,7 @@ piggyback =
     ("null" >> ",\"piggyback_data\":" >> behindWord (dataText Data.Empty) (give Piggyback.None))
     orElse (term >>= λ t. ",\"piggyback_data\":" >> (dataOf (record { 0 = t }) >>= λ d. give (Piggyback.Of (record { 0 = t }) d)))
 
--- ---- the packet
+-- ---- the packet, field by field: a quoted word has to stand there, and `x ← r` is what r reads
 
 -- up to the sender
 unfoldable pub header : Reader Header

@@ -29,7 +29,7 @@ abbrev pub place : Option ℕ → ℕ
 place none = 0
 place (some next) = next
 
--- the word is at the place `at`, and `next` behind it
+-- `found` is the place behind the word at the place `at`, or none
 pub record WordAt (word text : List ℕ) (at : ℕ) (found : Option ℕ) : Type 0 where
   pub right : behind word (drop at text) ≡ rest text found
   pub inside : place found ≤ length text

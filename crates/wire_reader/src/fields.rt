@@ -181,7 +181,7 @@ fn with_flag(set: u64, i: usize, flag: bool) -> u64
     if flag { set + (1 << i) } else { set }
 }
 
-// The set of n flags, if that are two at least.
+// The set of n flags, if there are at least two.
 fn counted(set: u64, n: u64, next: usize) -> FlagsFound
     ensures { λ r. ⌜ flagsFound r ≡ cond (leb minNodes n) (some ((set, n), next)) none ⌝ }
 {

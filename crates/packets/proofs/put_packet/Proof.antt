@@ -1,13 +1,14 @@
 use Prim.Native.Nat.{_-_, _≤_}
 use borrow.Author.Needs.{needs}
+use Rattle.marshal.specs.Packets.{packetSize}
 use Rattle.packets.proofs.put_packet.Statement.{statement}
 use Rattle.packets.proofs.put_packet.Tie as tie
 
 abbrev Inv-loop : tie.InvT-loop
-Inv-loop packet flags i₀ i = i ≤ 13
+Inv-loop packet flags i₀ i = i ≤ packetSize
 
 abbrev μ-loop : tie.MeasureT-loop
-μ-loop packet flags i₀ i = 13 - i
+μ-loop packet flags i₀ i = packetSize - i
 
 pub put-packet-spec : {M : Type 1} → statement M
 put-packet-spec =

@@ -23,9 +23,9 @@ module _ (p : Packet) (n : ℕ) (out : List ℕ) where
   unfolding writing
   textless e = simp e
 
-  short : length out < length (packetText n p) → writing p n out ≡ (Writing.Refused noText, out)
+  too-long : length out < length (packetText n p) → writing p n out ≡ (Writing.Refused noText, out)
   unfolding writing
-  short h = simp (lt-leb (length (packetText n p)) (length out) h, and-false)
+  too-long h = simp (lt-leb (length (packetText n p)) (length out) h, and-false)
 
   fitting : hasText n p ≡ true → length (packetText n p) ≤ length out → writing p n out ≡ (Writing.Text (length (packetText n p)), sets out 0 (packetText n p))
   unfolding writing
@@ -51,7 +51,7 @@ returns-2 : tie.Need-returns-2
 returns-2 c =
     let put = c .before .before in
     let a = put .before .before .before .before .before .args in
-    sym (short (a .packet) (a .flags) (now (a .out)) (omega (arith, size put, c .if2 .taken)))
+    sym (too-long (a .packet) (a .flags) (now (a .out)) (omega (arith, size put, c .if2 .taken)))
 
 -- it is in the buffer of its own
 room : (c : tie.After-put-packet) → c .put-packet .result ≤ length (c .put-packet .last .1 .1 .0)

@@ -20,7 +20,7 @@ returns-2 c =
     let known = put .before .before .before .before in
     let a = known .before .before .before .before .args in
     let part = sets (now (a .part)) 0 (known .answer2 .given .0 .0 .part ∷ []) in
-    ap (λ (l : List ℕ). (0, l, part)) (put .put-packet .ensures)
+    ap (λ (l : List ℕ). (0, l, part)) (put .put-numbers .ensures)
     ∙ ap (λ (x : Preview). previewResult x (now (a .packet)) (now (a .part))) (sym (known .answer2 .given .1))
 
 pub write-preview-spec : {M : Type 1} → statement M

@@ -20,7 +20,7 @@ returns-2 c =
     let known = put .before .before .before in
     let a = known .before .before .before .before .args in
     let flags = sets (now (a .flags)) 0 (known .answer2 .given .0 .1 .0 ∷ []) in
-    ap (λ (l : List ℕ). (0, l, flags)) (put .put-packet .ensures)
+    ap (λ (l : List ℕ). (0, l, flags)) (put .put-numbers .ensures)
     ∙ ap (λ (x : Reading). readingResult x (now (a .packet)) (now (a .flags))) (sym (known .answer2 .given .1))
 
 pub write-reading-spec : {M : Type 1} → statement M

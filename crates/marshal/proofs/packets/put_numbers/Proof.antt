@@ -8,8 +8,8 @@ use lib.Seq.{sets}
 use Rattle.phy.specs.declared.packet.Data.{Data}
 use Rattle.phy.specs.Packets.{dataTerm}
 use Rattle.marshal.specs.Packets.{termNumbers}
-use Rattle.marshal.proofs.packets.put_packet.Statement.{statement}
-use Rattle.marshal.proofs.packets.put_packet.Tie as tie
+use Rattle.marshal.proofs.packets.put_numbers.Statement.{statement}
+use Rattle.marshal.proofs.packets.put_numbers.Tie as tie
 
 -- the start, from where the last number is known
 abbrev start : tie.After-of-data2 → tie.Start
@@ -30,8 +30,8 @@ returns c =
     (p .sender .0 ∷ p .«current_term» .0 ∷ p .«flags_bitmap»
     ∷ wanted .of-nack .ensures i ++ accepted .of-last-accepted .ensures i ++ proposed .of-data .ensures i ++ again .of-piggyback .ensures i ++ carried i)
 
-pub put-packet-spec : {M : Type 1} → statement M
-put-packet-spec =
+pub put-numbers-spec : {M : Type 1} → statement M
+put-numbers-spec =
     tie.close
     (tie.spec
     (λ c κs. search needs) (λ c κs. search needs) (λ c κs. search needs) (λ c κs. search needs) (λ c κs. search needs) (λ c κs. search needs)
