@@ -314,8 +314,13 @@ void test_all_flags(void)
         }
 }
 
-/* Every packet of a run is written and read back, with the run's number of nodes. */
-static void run_packets(struct run r, const char *what)
+/* How many packets of runs had a NACK, and how many a piggyback. */
+struct seen {
+    uint64_t nacks, piggybacks;
+};
+
+/* Every packet of a run is written and read back, with the run's number of nodes, and counted. */
+static void run_packets(struct run r, struct seen *seen, const char *what)
 {
     uint64_t rounds, nodes, part[1];
     struct wire w;
@@ -329,16 +334,21 @@ static void run_packets(struct run r, const char *what)
                                      w.packet, COUNT(w.packet), part, 1) == 0, what);
         w.flags = nodes;
         both_ways(w, what);
+        seen->nacks += w.packet[CTSIM_PACKET_NACK_GIVEN];
+        seen->piggybacks += w.packet[CTSIM_PACKET_PIGGYBACK_GIVEN];
     }
 }
 
 void test_run_packets(void)
 {
     struct run r = lossy;
+    struct seen seen = {0, 0};
 
-    run_packets(r, "run's packets: a lossy grid");
-    r.topology = CTSIM_LINE; r.first = 2; r.second = 0; run_packets(r, "run's packets: two nodes");
+    run_packets(r, &seen, "run's packets: a lossy grid");
+    r.topology = CTSIM_LINE; r.first = 2; r.second = 0; run_packets(r, &seen, "run's packets: two nodes");
     r.topology = CTSIM_TREE; r.first = 32; r.second = 2; r.proposals = 64; r.given = 0;
-    run_packets(r, "run's packets: 32 nodes and 64 terms");
-    r.proposals = 0; run_packets(r, "run's packets: no proposal");
+    run_packets(r, &seen, "run's packets: 32 nodes and 64 terms");
+    r.proposals = 0; run_packets(r, &seen, "run's packets: no proposal");
+    check(seen.nacks > 0, "run's packets: one with a NACK");
+    check(seen.piggybacks > 0, "run's packets: one with a piggyback");
 }

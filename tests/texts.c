@@ -83,7 +83,7 @@ void test_damaged(void)
             n = spliced(out, i, 0, blanks[k]); no_text(out, n, "damaged: a blank more, 14");
         }
     n = spliced(out, length, 0, 0); no_text(out, n, "damaged: NUL behind, 14");
-    n = spliced(out, length, 0, '}'); no_text(out, n, "damaged: a bracket behind, 14");
+    n = spliced(out, length, 0, '}'); no_text(out, n, "damaged: a brace behind, 14");
     n = spliced(out, 0, 0, 0); no_text(out, n, "damaged: NUL in front, 14");
     sprintf(out, "%s%s", example, example); no_text(out, 2 * length, "damaged: two texts, 14");
     sprintf(out, "\xef\xbb\xbf%s", example); no_text(out, length + 3, "damaged: a byte order mark, 14");

@@ -1,8 +1,8 @@
 // Answers every line of its input as the Rust source does: `packet N` and thirteen numbers with the
-// packet's text, and `text T` with the packet that T is the text of. The first 50 lines are the
-// request's example, packets of the printed run and the worked example of docs/RULES.md, the longest text and
-// numbers that are unreadable; the others are those of `oracle/`'s program `inputs packets`. `stdout` is what its
-// program `answer` prints for `stdin`.
+// packet's text, and `text T` with the packet that T is the text of. The first 50 lines are the first
+// example of rule 15.4, packets of the printed run and of the worked example of docs/RULES.md, the longest text,
+// texts of no packet, and packets at the edges of the rule or with numbers that are unreadable; the other 360 are those of
+// `oracle/`'s `inputs packets 18 360`. `stdout` is what its program `answer` prints for `stdin`.
 use libc::STDIN_FILENO;
 use libc::STDOUT_FILENO;
 use line::read::field;
@@ -21,6 +21,9 @@ ghost use lib.ListN.{length};
 ghost use Rattle.marshal.specs.Packets.{packetSize};
 
 const INPUT_SIZE: usize = 131072;
+
+// The length of a line's first word, if it is `packet`.
+const PACKET_WORD: usize = 6;
 
 // A line that can't be read.
 const UNREADABLE: u64 = 12;
@@ -100,7 +103,7 @@ fn show_packet(text: &[u8]) {
 }
 
 fn answer(line: &[u8]) {
-    if field(line, 0).len() == 6 {
+    if field(line, 0).len() == PACKET_WORD {
         show_text(line);
     } else {
         let at = field_start(line, 1);

@@ -107,13 +107,13 @@ terms-mono {c} {d} {p} h k =
 
 -- ---- the initiator's packet
 
-more : (b : Bool) (c : ℕ) → c ≤ counterAfter b c
-more true c = omega arith
-more false c = le-refl c
+pub counter-more : (b : Bool) (c : ℕ) → c ≤ counterAfter b c
+counter-more true c = omega arith
+counter-more false c = le-refl c
 
-made : (b : Bool) (c : ℕ) → counterAfter b c ≤ maxTerms → proposalBelow (counterAfter b c) (currentTerm b c) (proposalData b c)
-made true c h = (omega arith, omega arith)
-made false c h = tt
+pub proposal-below : (b : Bool) (c : ℕ) → counterAfter b c ≤ maxTerms → proposalBelow (counterAfter b c) (currentTerm b c) (proposalData b c)
+proposal-below true c h = (omega arith, omega arith)
+proposal-below false c h = tt
 
 -- the terms of the initiator's packet are below the counter
 pub packet-below : (i n c : ℕ) (b : Bool) (pb : Piggyback) (s : State) → counterAfter b c ≤ maxTerms →
@@ -121,7 +121,7 @@ pub packet-below : (i n c : ℕ) (b : Bool) (pb : Piggyback) (s : State) → cou
     TermsBelow (counterAfter b c) (initiatorTurn i n c b pb s .packet)
 unfolding initiatorTurn announce
 packet-below i n c b pb s h l k =
-    record { last = l; proposal = made b c h; back = back-mono pb (more b c) k }
+    record { last = l; proposal = proposal-below b c h; back = back-mono pb (counter-more b c) k }
 
 -- a last accepted term is below what its number is at most
 pub last-below-of : (x c : ℕ) → x ≤ c → lastBelow c (lastOf x)

@@ -21,9 +21,9 @@ use Rattle.phy.specs.declared.packet.Piggyback.{Piggyback}
 use Rattle.protocol.specs.declared.paxos.Gap.{Gap}
 use Rattle.protocol.specs.Growth.{ownLog, Own, ownBack}
 use Rattle.protocol.specs.Paxos.{Pending, State, empty, union, vote, logged, held, isSome, hold, voted, mergeVotesUpTo, logEntry, afterLast, gapIn, detectGap, dataIn, find, reply, recovery}
-use Rattle.protocol.specs.Turns.{counterAfter, currentTerm, proposalData, nack, votesOf, announce, initiatorTurn, takeVotes, participantTurn}
+use Rattle.protocol.specs.Turns.{counterAfter, currentTerm, nack, votesOf, announce, initiatorTurn, takeVotes, participantTurn}
 use Rattle.protocol.specs.View.{dataBelow, proposalBelow, backBelow}
-use Rattle.protocol.proofs.Chains.{back-mono}
+use Rattle.protocol.proofs.Chains.{back-mono, counter-more, proposal-below}
 use Rattle.protocol.proofs.Commit.{one-logged}
 use Rattle.protocol.proofs.Growing.{by-log}
 use Rattle.protocol.proofs.Laws.{Keeps, AskData, AskBack, AnyData, AnyVotes, participant-keeps, initiator-keeps}
@@ -157,18 +157,10 @@ recovery-below c most (Nack.Of t) s h own = go (dataIn (find (t .0) (s .log)) (s
     go none w = tt
     go (some d) w = (h .1, subst dataBelow (sym w) (omega (arith, h .1)))
 
--- the current term, and a proposal's
+-- the current term, and that of a proposal
 current-below : (b : Bool) (c : ℕ) → counterAfter b c ≤ maxTerms → currentTerm b c < maxTerms
 current-below true c h = omega arith
 current-below false c h = omega arith
-
-proposal-below : (b : Bool) (c : ℕ) → counterAfter b c ≤ maxTerms → proposalBelow (counterAfter b c) (currentTerm b c) (proposalData b c)
-proposal-below true c h = (omega arith, omega arith)
-proposal-below false c h = tt
-
-counter-more : (b : Bool) (c : ℕ) → c ≤ counterAfter b c
-counter-more true c = omega arith
-counter-more false c = le-refl c
 
 proposed-below : (b : Bool) (c : ℕ) → b ≡ true → c < counterAfter b c
 proposed-below true c e = omega arith

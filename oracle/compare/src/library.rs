@@ -140,20 +140,13 @@ pub struct PreviewBuffers {
     pub part: Buffer<u64>,
 }
 
-/// A packet to write, and what it is written to.
+/// A packet and its text, of which one is given and the other is written.
 #[derive(Clone)]
-pub struct WriteBuffers {
+pub struct WireBuffers {
     pub packet: Buffer<u64>,
     pub text: Buffer<u8>,
-    pub written: Buffer<u64>,
-}
-
-/// A text to read, and what its packet is written to.
-#[derive(Clone)]
-pub struct ReadBuffers {
-    pub text: Buffer<u8>,
-    pub packet: Buffer<u64>,
-    pub flags: Buffer<u64>,
+    /// For the length of a text that is written, or the number of flags of one that is read.
+    pub single: Buffer<u64>,
 }
 
 /// Whether round slots are given, and the round slots. `any` stands for two arguments that may be
@@ -289,11 +282,11 @@ pub fn preview(input: &Input, any: u64, round: u64, buffers: &mut PreviewBuffers
 }
 
 /// Writes a packet of so many flags, and gives back what the entry returns.
-pub fn write_packet(flags: u64, buffers: &mut WriteBuffers) -> u64 {
-    let WriteBuffers {
+pub fn write_packet(flags: u64, buffers: &mut WireBuffers) -> u64 {
+    let WireBuffers {
         packet,
         text,
-        written,
+        single,
     } = buffers;
     // Safety: each pointer is that of a vector with at least so many places.
     unsafe {
@@ -303,18 +296,18 @@ pub fn write_packet(flags: u64, buffers: &mut WriteBuffers) -> u64 {
             flags,
             text.places.as_mut_ptr(),
             text.lent,
-            written.places.as_mut_ptr(),
-            written.lent,
+            single.places.as_mut_ptr(),
+            single.lent,
         )
     }
 }
 
 /// Reads a text, and gives back what the entry returns.
-pub fn read_packet(buffers: &mut ReadBuffers) -> u64 {
-    let ReadBuffers {
-        text,
+pub fn read_packet(buffers: &mut WireBuffers) -> u64 {
+    let WireBuffers {
         packet,
-        flags,
+        text,
+        single,
     } = buffers;
     // Safety: as above.
     unsafe {
@@ -323,8 +316,8 @@ pub fn read_packet(buffers: &mut ReadBuffers) -> u64 {
             text.lent,
             packet.places.as_mut_ptr(),
             packet.lent,
-            flags.places.as_mut_ptr(),
-            flags.lent,
+            single.places.as_mut_ptr(),
+            single.lent,
         )
     }
 }

@@ -1,8 +1,8 @@
 //! Packets and texts, written and read by the library and by ctsim.
 
 use crate::check::{differs, result_differs};
-use crate::library::{self, Buffer, ReadBuffers, WriteBuffers};
-use oracle::{is_taken_by_ctsim, Packet, PACKET_LENGTH};
+use crate::library::{self, Buffer, WireBuffers};
+use oracle::{damages, is_taken_by_ctsim, Packet, Taken, PACKET_LENGTH};
 
 /// The library's numbers for a packet or a text that is none, and for a slice that is too short.
 const REFUSED: u64 = 14;
@@ -36,8 +36,7 @@ impl Wired {
     pub fn check(&self, mark: u64) -> CheckedWired {
         let (taken_by_ctsim, taken_here, difference) = match self {
             Self::Packet(packet) | Self::Near(_, packet) => {
-                let unlike = || self.unlike_its_kind(packet);
-                let difference = packet_differs(packet, mark).or_else(unlike);
+                let difference = packet_differs(packet, mark);
                 (false, is_written_here(packet), difference)
             }
             Self::Text(_, text) => {
@@ -48,14 +47,18 @@ impl Wired {
         CheckedWired {
             taken_by_ctsim,
             taken_here,
-            difference,
+            difference: difference.or_else(|| self.unlike_its_kind()),
         }
     }
 
-    /// A packet with a fault has a text, or one without has none.
-    fn unlike_its_kind(&self, packet: &Packet) -> Option<String> {
-        let (has_text, is_near) = (packet.write().is_some(), matches!(self, Self::Near(..)));
-        (has_text == is_near).then(|| format!("has a text: {has_text}"))
+    /// A packet with a fault has a text, or one without has none; or a damaged text is not as its
+    /// damage should leave it.
+    fn unlike_its_kind(&self) -> Option<String> {
+        match self {
+            Self::Packet(packet) => packet.write().is_none().then(|| "has no text".into()),
+            Self::Near(_, packet) => packet.write().map(|_| "has a text".into()),
+            Self::Text(damage, text) => unlike_its_damage(*damage, text),
+        }
     }
 
     /// As a line for `answer`.
@@ -84,19 +87,35 @@ fn packet_differs(packet: &Packet, mark: u64) -> Option<String> {
     let more = needed + 1 + (mark >> 20 & 15) as usize;
     let fewer = (mark >> 24) as usize % needed;
     let mut lengths = [needed, more, needed - 1, fewer].into_iter();
+    let long = || to_write(packet, LONG, mark);
     lengths
         .find_map(|lent| writing_differs(packet, text.as_deref(), lent, mark))
-        .or_else(|| short_writing_differs(packet, mark))
+        .or_else(|| short_differs("written", writer(packet), long(), mark))
         .or_else(|| read_back_differs(packet, &text?, mark))
 }
 
 /// Reads a text, whether it is a packet's or not.
 fn text_differs(text: &[u8], mark: u64) -> Option<String> {
-    reading_differs(text, text.len(), mark).or_else(|| short_reading_differs(text, mark))
+    let whole = || to_read(text, text.len(), mark);
+    reading_differs(text, text.len(), mark)
+        .or_else(|| short_differs("read", library::read_packet, whole(), mark))
+}
+
+/// ctsim refuses a text though it takes all of the damage, or takes it though it takes none; or the
+/// text is a packet's, which none of the damage is.
+fn unlike_its_damage(damage: usize, text: &[u8]) -> Option<String> {
+    let (name, taken) = damages()[damage];
+    let (by_ctsim, is_a_packets) = (is_taken_by_ctsim(text), Packet::read(text).is_some());
+    let like = match taken {
+        Taken::Always => by_ctsim && !is_a_packets,
+        Taken::Sometimes => true,
+        Taken::Never => !by_ctsim,
+    };
+    (!like).then(|| format!("{name}: taken by ctsim: {by_ctsim}, a packet's: {is_a_packets}"))
 }
 
 fn is_written_here(packet: &Packet) -> bool {
-    library::write_packet(packet.flags, &mut to_write(packet, LONG, 0)) == 0
+    writer(packet)(&mut to_write(packet, LONG, 0)) == 0
 }
 
 fn is_taken_here(text: &[u8]) -> bool {
@@ -116,65 +135,67 @@ fn read_back_differs(packet: &Packet, text: &[u8], mark: u64) -> Option<String> 
     text_differs(text, mark).or_else(|| reading_differs(text, fewer, mark))
 }
 
+/// Writes to so many bytes.
 fn writing_differs(packet: &Packet, text: Option<&[u8]>, lent: usize, mark: u64) -> Option<String> {
-    let mut expected = to_write(packet, lent, mark);
-    let mut found = expected.clone();
+    let before = to_write(packet, lent, mark);
+    let mut expected = before.clone();
     let mut result = REFUSED;
     if let Some(text) = text.filter(|text| text.len() <= lent) {
         expected.text.places[..text.len()].copy_from_slice(text);
-        expected.written.places[0] = text.len() as u64;
+        expected.single.places[0] = text.len() as u64;
         result = 0;
     }
-    let returned = library::write_packet(packet.flags, &mut found);
-    let difference = result_differs("result", result, returned)
-        .or_else(|| written_differs(&expected, &found))?;
+    let difference = call_differs(writer(packet), before, result, &expected)?;
     Some(format!("written to {lent} bytes: {difference}"))
-}
-
-/// One slice too short, which is refused first of all.
-fn short_writing_differs(packet: &Packet, mark: u64) -> Option<String> {
-    let mut expected = to_write(packet, LONG, mark);
-    if mark >> 32 & 1 == 0 {
-        expected.packet.lent = (mark >> 24) as usize % PACKET_LENGTH;
-    } else {
-        expected.written.lent = 0;
-    }
-    let mut found = expected.clone();
-    let returned = library::write_packet(packet.flags, &mut found);
-    let difference =
-        result_differs("result", SHORT, returned).or_else(|| written_differs(&expected, &found))?;
-    Some(format!("written with a short slice: {difference}"))
 }
 
 /// Reads the first bytes of a text, so many as are lent.
 fn reading_differs(text: &[u8], lent: usize, mark: u64) -> Option<String> {
-    let mut expected = to_read(text, lent, mark);
-    let mut found = expected.clone();
+    let before = to_read(text, lent, mark);
+    let mut expected = before.clone();
     let mut result = REFUSED;
     if let Some(packet) = Packet::read(&text[..lent]) {
         expected.packet.places[..PACKET_LENGTH].copy_from_slice(&packet.numbers);
-        expected.flags.places[0] = packet.flags;
+        expected.single.places[0] = packet.flags;
         result = 0;
     }
-    let returned = library::read_packet(&mut found);
-    let difference =
-        result_differs("result", result, returned).or_else(|| read_differs(&expected, &found))?;
+    let difference = call_differs(library::read_packet, before, result, &expected)?;
     Some(format!("{lent} bytes read: {difference}"))
 }
 
 /// One slice too short, which is refused first of all.
-fn short_reading_differs(text: &[u8], mark: u64) -> Option<String> {
-    let mut expected = to_read(text, text.len(), mark);
+fn short_differs(
+    done: &str,
+    call: impl Fn(&mut WireBuffers) -> u64,
+    mut buffers: WireBuffers,
+    mark: u64,
+) -> Option<String> {
     if mark >> 32 & 1 == 0 {
-        expected.packet.lent = (mark >> 24) as usize % PACKET_LENGTH;
+        buffers.packet.lent = (mark >> 24) as usize % PACKET_LENGTH;
     } else {
-        expected.flags.lent = 0;
+        buffers.single.lent = 0;
     }
-    let mut found = expected.clone();
-    let returned = library::read_packet(&mut found);
-    let difference =
-        result_differs("result", SHORT, returned).or_else(|| read_differs(&expected, &found))?;
-    Some(format!("read with a short slice: {difference}"))
+    let difference = call_differs(call, buffers.clone(), SHORT, &buffers)?;
+    Some(format!("{done} with a short slice: {difference}"))
+}
+
+/// Calls the library, which should return that result and leave the buffers as expected.
+fn call_differs(
+    call: impl Fn(&mut WireBuffers) -> u64,
+    mut found: WireBuffers,
+    result: u64,
+    expected: &WireBuffers,
+) -> Option<String> {
+    let returned = call(&mut found);
+    result_differs("result", result, returned)
+        .or_else(|| differs("packet", &expected.packet.places, &found.packet.places))
+        .or_else(|| differs("text", &expected.text.places, &found.text.places))
+        .or_else(|| differs("single", &expected.single.places, &found.single.places))
+}
+
+fn writer(packet: &Packet) -> impl Fn(&mut WireBuffers) -> u64 {
+    let flags = packet.flags;
+    move |buffers| library::write_packet(flags, buffers)
 }
 
 /// None or a few places more than are needed.
@@ -183,36 +204,24 @@ fn more(mark: u64, from: u32) -> usize {
 }
 
 /// The packet, and for the text so many bytes. All other places hold marks.
-fn to_write(packet: &Packet, lent: usize, mark: u64) -> WriteBuffers {
+fn to_write(packet: &Packet, lent: usize, mark: u64) -> WireBuffers {
     let mut numbers = Buffer::new(PACKET_LENGTH + more(mark, 40), mark);
     numbers.places[..PACKET_LENGTH].copy_from_slice(&packet.numbers);
-    WriteBuffers {
+    WireBuffers {
         packet: numbers,
         text: Buffer::new(lent, (mark >> 8) as u8),
-        written: Buffer::new(1 + more(mark, 48), mark),
+        single: Buffer::new(1 + more(mark, 48), mark),
     }
 }
 
 /// The text, of which so many bytes are lent. All other places hold marks.
-fn to_read(text: &[u8], lent: usize, mark: u64) -> ReadBuffers {
+fn to_read(text: &[u8], lent: usize, mark: u64) -> WireBuffers {
     let mut bytes = Buffer::new(text.len(), (mark >> 8) as u8);
     bytes.places[..text.len()].copy_from_slice(text);
     bytes.lent = lent;
-    ReadBuffers {
-        text: bytes,
+    WireBuffers {
         packet: Buffer::new(PACKET_LENGTH + more(mark, 40), mark),
-        flags: Buffer::new(1 + more(mark, 48), mark),
+        text: bytes,
+        single: Buffer::new(1 + more(mark, 48), mark),
     }
-}
-
-fn written_differs(expected: &WriteBuffers, found: &WriteBuffers) -> Option<String> {
-    differs("text", &expected.text.places, &found.text.places)
-        .or_else(|| differs("written", &expected.written.places, &found.written.places))
-        .or_else(|| differs("packet", &expected.packet.places, &found.packet.places))
-}
-
-fn read_differs(expected: &ReadBuffers, found: &ReadBuffers) -> Option<String> {
-    differs("packet", &expected.packet.places, &found.packet.places)
-        .or_else(|| differs("flags", &expected.flags.places, &found.flags.places))
-        .or_else(|| differs("text", &expected.text.places, &found.text.places))
 }

@@ -4,13 +4,11 @@ use crate::check::{differs, mark_of, result_differs};
 use crate::clock::processor_seconds;
 use crate::library::{self, Buffer, PreviewBuffers, PART_LENGTH};
 use crate::packets::Wired;
+use oracle::place::{NACK, PIGGYBACK};
 use oracle::{Answer, Input, Packet, Preview, Round, PACKET_LENGTH};
 
 /// The library's number for a slice that is too short.
 const SHORT: u64 = 100;
-/// Places of a packet that say whether a NACK and a piggyback are given.
-const NACK: usize = 3;
-const PIGGYBACK: usize = 9;
 
 /// What was seen of one line's previews.
 #[derive(Default)]

@@ -6,12 +6,26 @@ use ctsim::sim::paxos_pipeline::harness::SeenRound;
 /// Numbers of a packet.
 pub const PACKET_LENGTH: usize = 13;
 
+/// Places of a packet's numbers: the sender, the current term and the flags; then the NACK, the last
+/// accepted term, proposal data, the piggyback and its data, each of which is given, 1, or not, 0. The
+/// term of such a one stands behind it, 0 if it is not given.
+pub mod place {
+    pub const SENDER: usize = 0;
+    pub const TERM: usize = 1;
+    pub const FLAGS: usize = 2;
+    pub const NACK: usize = 3;
+    pub const LAST_ACCEPTED: usize = 5;
+    pub const DATA: usize = 7;
+    pub const PIGGYBACK: usize = 9;
+    pub const PIGGYBACK_DATA: usize = 11;
+    pub const GIVEN: [usize; 5] = [NACK, LAST_ACCEPTED, DATA, PIGGYBACK, PIGGYBACK_DATA];
+}
+
 #[derive(Debug, Clone, PartialEq, Eq)]
 pub struct Round {
     /// Its first slot.
     pub start: u64,
-    /// Sender, current term and flags; then NACK, last accepted term, proposal data, piggyback and
-    /// the piggyback's data, of each whether it is given, 0 or 1, and its term, 0 if it is not.
+    /// As `place` has its numbers.
     pub packet: [u64; PACKET_LENGTH],
     /// The set of the nodes that took part.
     pub part: u64,
@@ -52,8 +66,8 @@ pub(crate) fn numbers(packet: &PaxosPacket) -> [u64; PACKET_LENGTH] {
 pub(crate) fn placed(first: [u64; 3], terms: [Option<u64>; 5]) -> [u64; PACKET_LENGTH] {
     let mut numbers = [0; PACKET_LENGTH];
     numbers[..3].copy_from_slice(&first);
-    for (places, term) in numbers[3..].chunks_exact_mut(2).zip(terms) {
-        places.copy_from_slice(&term.map_or([0, 0], |term| [1, term]));
+    for (at, term) in place::GIVEN.into_iter().zip(terms) {
+        numbers[at..][..2].copy_from_slice(&term.map_or([0, 0], |term| [1, term]));
     }
     numbers
 }

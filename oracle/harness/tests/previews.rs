@@ -1,6 +1,7 @@
 //! One round of a run, by the Rust itself.
 
-use oracle::{previews, random, run, small, Answer, Input, Line, Preview, Summary};
+use oracle::{place, previews, random, run, small};
+use oracle::{Answer, Input, Line, Preview, Summary};
 
 /// The answer to `round K LINE`.
 fn preview(round: &str, line: &str) -> String {
@@ -78,7 +79,8 @@ fn rounds_agree_with_the_summary() {
         let Answer::Ran(run) = run(&input) else {
             panic!("not accepted: {input}");
         };
-        let nacks: u64 = run.rounds.iter().map(|round| round.packet[3]).sum();
+        let packets = run.rounds.iter().map(|round| round.packet);
+        let nacks: u64 = packets.map(|packet| packet[place::NACK]).sum();
         let took_part = run.rounds.iter().map(|round| round.part.count_ones());
         let covered: u64 = took_part.map(u64::from).sum();
         assert_eq!(nacks, run.nacks_sent, "{input}");
@@ -93,11 +95,14 @@ fn packets_follow_the_rules(input: &Input, run: &Summary) {
     for (k, round) in (0..).zip(&run.rounds) {
         let packet = round.packet;
         let (sender, term) = (k % run.nodes as u64, k.min(proposals.saturating_sub(1)));
-        assert_eq!(packet[..2], [sender, term], "round {k} of {input}");
+        let found = [packet[place::SENDER], packet[place::TERM]];
+        assert_eq!(found, [sender, term], "round {k} of {input}");
         let data = if k < proposals { [1, k] } else { [0, 0] };
-        assert_eq!(packet[7..9], data, "round {k} of {input}");
-        assert_eq!(packet[9..11], packet[11..], "round {k} of {input}");
-        let sender_is_in = packet[2] & round.part & 1 << sender != 0;
+        let given = |at: usize| [packet[at], packet[at + 1]];
+        assert_eq!(given(place::DATA), data, "round {k} of {input}");
+        let (piggyback, its_data) = (given(place::PIGGYBACK), given(place::PIGGYBACK_DATA));
+        assert_eq!(piggyback, its_data, "round {k} of {input}");
+        let sender_is_in = packet[place::FLAGS] & round.part & 1 << sender != 0;
         assert!(sender_is_in, "round {k} of {input}");
     }
 }

@@ -1,9 +1,9 @@
 //! Packets on the wire, by the Rust itself and by the rule of request L2.
 
-use oracle::{damaged_texts, damages, deserialize_packet, faults, is_taken_by_ctsim};
-use oracle::{near_packets, packet_lines, packets, random, run, Answer, Line, Packet};
+use oracle::{damaged_texts, damages, faults, is_taken_by_ctsim, near_packets, packet_lines};
+use oracle::{packets, random, run, Answer, Line, Packet, Taken};
 
-/// The text of document 02's request.
+/// The first example of rule 15.4 of docs/RULES.md.
 const EXAMPLE: &str =
     "{\"current_term\":0,\"last_accepted_term\":null,\"flags_bitmap\":[true,false],\
     \"nack_term\":0,\"sender\":0,\"proposal_data\":[116,120,48],\"piggyback_term\":null,\
@@ -121,24 +121,48 @@ fn no_fault_leaves_a_text() {
     }
 }
 
-/// A text that is read is what the packet has; another that ctsim takes says a packet without a
-/// text, or says it in other bytes.
+/// Few of the bytes before and behind a text are blanks, which ctsim takes: fewer texts might have
+/// none of them.
 #[test]
-fn damaged_texts_are_no_packets_texts() {
-    for (damage, text) in damaged_texts(3).take(damages().len() * 500) {
-        if let Some(packet) = Packet::read(&text) {
-            assert_eq!(packet.write(), Some(text), "{}", damages()[damage]);
+fn ctsim_takes_damaged_texts_as_listed() {
+    let damages = damages();
+    let mut counts = damages.map(|_| [0; 2]);
+    for (damage, text) in damaged_texts(3).take(damages.len() * 2000) {
+        counts[damage][usize::from(is_taken_by_ctsim(&text))] += 1;
+    }
+    for ((name, listed), [refused, taken]) in damages.into_iter().zip(counts) {
+        let found = match (taken, refused) {
+            (0, _) => Taken::Never,
+            (_, 0) => Taken::Always,
+            _ => Taken::Sometimes,
+        };
+        assert_eq!(found, listed, "{name}: {taken} taken, {refused} refused");
+    }
+}
+
+/// Only a damage whose texts ctsim takes and refuses may leave the text of a packet.
+#[test]
+fn damages_leave_no_packets_text() {
+    let damages = damages();
+    for (damage, text) in damaged_texts(3).take(damages.len() * 500) {
+        let (name, taken) = damages[damage];
+        if taken != Taken::Sometimes {
+            assert_eq!(Packet::read(&text), None, "{name}");
         }
     }
 }
 
-/// What ctsim takes beyond its own texts.
+/// What ctsim takes beyond its own texts, and what it does not take.
 #[test]
 fn ctsim_takes_more() {
     let taken = [
         EXAMPLE.replace(":0,", ": 0 ,"),
         format!(" {EXAMPLE}\r\n\t"),
         EXAMPLE.replace("\"last_accepted_term\":null,", ""),
+        EXAMPLE.replace(
+            "\"nack_term\":0,\"sender\":0",
+            "\"sender\":0,\"nack_term\":0",
+        ),
         EXAMPLE.replace("\"sender\":0,", "\"sender\":0,\"x\":[{}],"),
         EXAMPLE.replace("current_term", "\\u0063urrent_term"),
         EXAMPLE.replace("[true,false]", "[]"),
@@ -154,8 +178,9 @@ fn ctsim_takes_more() {
         let text = EXAMPLE.replace("\"sender\":0", &format!("\"sender\":{form}"));
         assert!(!is_taken_by_ctsim(text.as_bytes()), "{text}");
     }
-    let sender_alone = deserialize_packet(b"{\"sender\":0}");
-    assert!(sender_alone.is_none());
+    let repeated = EXAMPLE.replace("\"sender\":0", "\"sender\":0,\"sender\":0");
+    assert!(!is_taken_by_ctsim(repeated.as_bytes()), "{repeated}");
+    assert!(!is_taken_by_ctsim(b"{\"sender\":0}"));
 }
 
 #[test]

@@ -2,8 +2,7 @@
 
 use compare::arguments::seed_and_count;
 use compare::clock::processor_seconds;
-use compare::library::{self, Buffer, Buffers, PreviewBuffers, PART_LENGTH};
-use compare::library::{ReadBuffers, WriteBuffers};
+use compare::library::{self, Buffer, Buffers, PreviewBuffers, WireBuffers, PART_LENGTH};
 use compare::library::{LOGS_LENGTH, RECORDS_LENGTH, SNAPSHOT_LENGTH, SUMMARY_LENGTH};
 use oracle::{deserialize_packet, serialize_packet, Packet};
 use oracle::{Answer, Input, Summary, PACKET_LENGTH};
@@ -245,15 +244,15 @@ fn measure_previews(input: &Input, run: &Summary, effort: &Effort) -> [f64; 4] {
 /// The packet written by ctsim and by the library, and its text read by both.
 fn measure_packet(packet: &Packet, text: &[u8], effort: &Effort) -> [f64; 4] {
     let by_ctsim = deserialize_packet(text).expect("ctsim reads its text");
-    let mut to_write = WriteBuffers {
+    let mut to_write = WireBuffers {
         packet: holding(&packet.numbers),
         text: Buffer::new(text.len(), 0),
-        written: Buffer::new(1, 0),
+        single: Buffer::new(1, 0),
     };
-    let mut to_read = ReadBuffers {
-        text: holding(text),
+    let mut to_read = WireBuffers {
         packet: Buffer::new(PACKET_LENGTH, 0),
-        flags: Buffer::new(1, 0),
+        text: holding(text),
+        single: Buffer::new(1, 0),
     };
     let mut write = repeated(|| drop(black_box(serialize_packet(black_box(&by_ctsim)))));
     let mut written = repeated(|| {

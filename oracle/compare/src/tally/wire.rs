@@ -1,16 +1,17 @@
 //! The packets and texts that were made to be compared.
 
 use crate::packets::{CheckedWired, Wired};
+use oracle::place::{DATA, LAST_ACCEPTED, NACK, PIGGYBACK, PIGGYBACK_DATA};
 use oracle::{damages, faults, Packet};
 use std::fmt;
 
 /// What is optional in a packet, by the place that says whether it is given.
 const PARTS: [(&str, usize); 5] = [
-    ("a NACK", 3),
-    ("a last accepted term", 5),
-    ("proposal data", 7),
-    ("a piggyback", 9),
-    ("a piggyback's data", 11),
+    ("a NACK", NACK),
+    ("a last accepted term", LAST_ACCEPTED),
+    ("proposal data", DATA),
+    ("a piggyback", PIGGYBACK),
+    ("a piggyback's data", PIGGYBACK_DATA),
 ];
 
 pub(super) struct Wire {
@@ -76,7 +77,7 @@ impl fmt::Display for Wire {
             f,
             "\n| damage | texts | taken by ctsim | taken here |\n|---|---|---|---|"
         )?;
-        for (name, [all, by_ctsim, here]) in damages().iter().zip(&self.texts) {
+        for ((name, _), [all, by_ctsim, here]) in damages().iter().zip(&self.texts) {
             writeln!(f, "| {name} | {all} | {by_ctsim} | {here} |")?;
         }
         writeln!(f)

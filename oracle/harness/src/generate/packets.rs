@@ -3,20 +3,12 @@
 use super::texts::DAMAGES;
 use super::Source;
 use crate::answer::{run, Answer};
+use crate::round::place::{
+    DATA, FLAGS, GIVEN, LAST_ACCEPTED, NACK, PIGGYBACK, PIGGYBACK_DATA, SENDER, TERM,
+};
 use crate::round::{placed, Round};
 use crate::wire::Packet;
 use rand::RngCore;
-
-/// Places of a packet's numbers. Behind each of the last five stands its term.
-const SENDER: usize = 0;
-const TERM: usize = 1;
-const FLAGS: usize = 2;
-const NACK: usize = 3;
-const LAST_ACCEPTED: usize = 5;
-const DATA: usize = 7;
-const PIGGYBACK: usize = 9;
-const PIGGYBACK_DATA: usize = 11;
-const GIVEN: [usize; 5] = [NACK, LAST_ACCEPTED, DATA, PIGGYBACK, PIGGYBACK_DATA];
 
 type Fault = fn(&mut Source, &mut Packet);
 
@@ -74,7 +66,7 @@ impl Source {
             2 => self.packet_of_run(),
             3 | 4 => self.near_packet((2 * turn + of_eight - 3) % FAULTS.len()),
             _ => {
-                let (_, damaged) = DAMAGES[(3 * turn + of_eight - 5) % DAMAGES.len()];
+                let (_, damaged, _) = DAMAGES[(3 * turn + of_eight - 5) % DAMAGES.len()];
                 return text_line(&damaged(self));
             }
         };

@@ -4,72 +4,84 @@ mod forms;
 mod values;
 
 use super::Source;
+use Taken::{Always, Never, Sometimes};
 
 type Damage = fn(&mut Source) -> Vec<u8>;
 
-/// What is done to a text, each by its name.
+/// Which texts of a damage ctsim takes, as docs/DIFFERENCES.md lists them.
+#[derive(Debug, Clone, Copy, PartialEq, Eq)]
+pub enum Taken {
+    /// All, and none of them is a packet's text.
+    Always,
+    /// Some, which may be texts of other packets, but not all.
+    Sometimes,
+    /// None.
+    Never,
+}
+
+/// What is done to a text, each by its name, and whether ctsim takes it then.
 #[rustfmt::skip]
-pub(super) const DAMAGES: [(&str, Damage); 48] = [
-    ("a byte changed to a near one", Source::byte_changed_nearly),
-    ("a byte changed to any other", Source::byte_changed),
-    ("a digit changed to another", Source::digit_changed),
-    ("a byte removed", Source::byte_removed),
-    ("a byte put in", Source::byte_put_in),
-    ("two bytes exchanged", Source::bytes_exchanged),
-    ("cut", Source::cut),
-    ("bytes behind", Source::bytes_behind),
-    ("bytes before", Source::bytes_before),
-    ("blanks behind", Source::blanks_behind),
-    ("blanks before", Source::blanks_before),
-    ("blanks between words", Source::blanks_between_words),
-    ("a blank within a word", Source::blank_within_word),
-    ("two fields exchanged", Source::fields_exchanged),
-    ("fields in any order", Source::fields_in_any_order),
-    ("a field repeated", Source::field_repeated),
-    ("a field repeated with another value", Source::field_repeated_otherwise),
-    ("an unknown field", Source::field_unknown),
-    ("an optional term left out", Source::optional_left_out),
-    ("another field left out", Source::field_left_out),
-    ("a field's name escaped", Source::name_escaped),
-    ("a field's name spelt otherwise", Source::name_spelt_otherwise),
-    ("an array of the values alone", Source::values_alone),
-    ("a comma behind the last", Source::comma_behind_last),
-    ("a number as `1.0`", Source::number_with_point),
-    ("a number as `1e0`", Source::number_with_exponent),
-    ("a number as `01`", Source::number_with_zero),
-    ("`-0` for `0`", Source::minus_zero),
-    ("a number as `-1`", Source::number_with_minus),
-    ("a number as `+1`", Source::number_with_plus),
-    ("a number in quotes", Source::number_in_quotes),
-    ("a number of 2^64 or above", Source::number_too_great),
-    ("`null` for a number", Source::null_for_number),
-    ("a flag as `1` or `0`", Source::flag_as_number),
-    ("a flag as `True` or `FALSE`", Source::flag_in_capitals),
-    ("a flag as `null` or in quotes", Source::flag_otherwise),
-    ("`None` or `\"\"` for `null`", Source::null_otherwise),
-    ("data as a string", Source::data_as_string),
-    ("`null` for data", Source::null_for_data),
-    ("a byte of data above 255", Source::data_byte_too_great),
-    ("0 or 1 flags", Source::text_of_too_few_flags),
-    ("33 flags or more", Source::text_of_too_many_flags),
-    ("sender at or above the number of flags", Source::text_of_sender_beyond),
-    ("a term of 64 or above", Source::text_of_term_beyond),
-    ("proposal data of another term", Source::text_of_data_of_another_term),
-    ("piggyback's data of another term", Source::text_of_piggyback_data_of_another_term),
-    ("piggyback's data, no piggyback", Source::text_of_piggyback_data_alone),
-    ("data of no term", Source::text_of_data_of_no_term),
+pub(super) const DAMAGES: [(&str, Damage, Taken); 48] = [
+    ("a byte changed to a near one", Source::byte_changed_nearly, Sometimes),
+    ("a byte changed to any other", Source::byte_changed, Sometimes),
+    ("a digit changed to another", Source::digit_changed, Sometimes),
+    ("a byte removed", Source::byte_removed, Sometimes),
+    ("a byte put in", Source::byte_put_in, Sometimes),
+    ("two bytes exchanged", Source::bytes_exchanged, Sometimes),
+    ("cut", Source::cut, Never),
+    ("bytes behind", Source::bytes_behind, Sometimes),
+    ("bytes before", Source::bytes_before, Sometimes),
+    ("blanks behind", Source::blanks_behind, Always),
+    ("blanks before", Source::blanks_before, Always),
+    ("blanks between words", Source::blanks_between_words, Always),
+    ("a blank within a word", Source::blank_within_word, Sometimes),
+    ("two fields exchanged", Source::fields_exchanged, Always),
+    ("fields in any order", Source::fields_in_any_order, Always),
+    ("a field repeated", Source::field_repeated, Never),
+    ("a field repeated with another value", Source::field_repeated_otherwise, Never),
+    ("an unknown field", Source::field_unknown, Always),
+    ("an optional term left out", Source::optional_left_out, Always),
+    ("another field left out", Source::field_left_out, Never),
+    ("a field's name escaped", Source::name_escaped, Always),
+    ("a field's name spelt otherwise", Source::name_spelt_otherwise, Sometimes),
+    ("an array of the values alone", Source::values_alone, Always),
+    ("a comma behind the last", Source::comma_behind_last, Never),
+    ("a number as `1.0`", Source::number_with_point, Never),
+    ("a number as `1e0`", Source::number_with_exponent, Never),
+    ("a number as `01`", Source::number_with_zero, Never),
+    ("`-0` for `0`", Source::minus_zero, Never),
+    ("a number as `-1`", Source::number_with_minus, Never),
+    ("a number as `+1`", Source::number_with_plus, Never),
+    ("a number in quotes", Source::number_in_quotes, Never),
+    ("a number of 2^64 or above", Source::number_too_great, Never),
+    ("`null` for a number", Source::null_for_number, Sometimes),
+    ("a flag as `1` or `0`", Source::flag_as_number, Never),
+    ("a flag as `True` or `FALSE`", Source::flag_in_capitals, Never),
+    ("a flag as `null` or in quotes", Source::flag_otherwise, Never),
+    ("`None` or `\"\"` for `null`", Source::null_otherwise, Never),
+    ("data as a string", Source::data_as_string, Never),
+    ("`null` for data", Source::null_for_data, Never),
+    ("a byte of data above 255", Source::data_byte_too_great, Never),
+    ("0 or 1 flags", Source::text_of_too_few_flags, Always),
+    ("33 flags or more", Source::text_of_too_many_flags, Always),
+    ("sender at or above the number of flags", Source::text_of_sender_beyond, Always),
+    ("a term of 64 or above", Source::text_of_term_beyond, Always),
+    ("proposal data of another term", Source::text_of_data_of_another_term, Always),
+    ("piggyback's data of another term", Source::text_of_piggyback_data_of_another_term, Always),
+    ("piggyback's data, no piggyback", Source::text_of_piggyback_data_alone, Always),
+    ("data of no term", Source::text_of_data_of_no_term, Always),
 ];
 
-/// The names of the damages.
-pub fn damages() -> Vec<&'static str> {
-    DAMAGES.iter().map(|(name, _)| *name).collect()
+/// The names of the damages, and which of their texts ctsim takes.
+pub fn damages() -> [(&'static str, Taken); DAMAGES.len()] {
+    DAMAGES.map(|(name, _, taken)| (name, taken))
 }
 
 /// Texts without end, by each of the damages in turn, whose number comes first.
 pub fn damaged_texts(seed: u64) -> impl Iterator<Item = (usize, Vec<u8>)> {
     let mut source = Source::new(seed);
     let damages = DAMAGES.iter().enumerate().cycle();
-    damages.map(move |(number, (_, damaged))| (number, damaged(&mut source)))
+    damages.map(move |(number, (_, damaged, _))| (number, damaged(&mut source)))
 }
 
 /// Damages to bytes, whatever they say.

@@ -52,10 +52,15 @@ impl Source {
         })
     }
 
+    /// Any but their own.
     pub(super) fn fields_in_any_order(&mut self) -> Vec<u8> {
         self.with_fields(|source, fields| {
+            let own = fields.clone();
             for at in 1..fields.len() {
                 fields.swap(at, source.index(at + 1));
+            }
+            if *fields == own {
+                fields.reverse();
             }
         })
     }
