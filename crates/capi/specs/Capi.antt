@@ -1,10 +1,10 @@
--- What each entry for C returns, and the final contents of the lent slices (rules 7.5 to 7.7, 9.4 and 15.9). The result is 0 or the refusal's
+-- What each entry for C returns, and the final contents of the lent slices (rules 7.5 to 7.7, 9.4, 12.7 and 15.9). The result is 0 or the refusal's
 -- number; a refusal leaves every slice as it was. `short` is these entries' own and asked first: has the slice of a summary, of a packet
 -- or of a single result its places?
 use Prim.Native.Nat.{ℕ, _≤_}
 use mathlib.Core.Path.{_≡_}
 use mathlib.Core.Bool.{cond, _&&_}
-use mathlib.Core.List.{List, [], _∷_, _++_}
+use mathlib.Core.List.{List, [], _∷_}
 use lib.Dec.{leb}
 use lib.Ieee.{Float}
 use lib.ListN.{length}
@@ -16,14 +16,13 @@ use Rattle.network.specs.declared.distance.Measured.{Measured}
 use Rattle.metrics.specs.declared.summary.Summary.{Summary}
 use Rattle.config.specs.declared.Config.{Config}
 use Rattle.metrics.specs.declared.ratios.Ratio.{Ratio}
-use Rattle.rules.specs.declared.answer.SeenRound.{SeenRound}
 use Rattle.rules.specs.Networks.{RowsOrTopology}
 use Rattle.rules.specs.Entries.{Outcome, givenFor, runOfRows, runOfTopology}
 use Rattle.metrics.specs.Ratio.{ratioOf}
 use Rattle.preview.specs.declared.Preview.{Preview}
 use Rattle.preview.specs.Preview.{previewFor}
 use Rattle.marshal.specs.Convert.{summarySize, ratioResult, summaryAt, resultOf, withSummary}
-use Rattle.marshal.specs.Packets.{packetSize, packetNumbers}
+use Rattle.marshal.specs.Packets.{packetSize}
 use Rattle.marshal.specs.Previews.{previewResult}
 use Rattle.marshal.specs.Texts.{readingResult, writtenFrom}
 use Rattle.wire.specs.Grammar.{textMost}
@@ -107,13 +106,12 @@ returnedText packet n text written = ifRoom packet written (writtenFrom packet n
 abbrev pub returnedPacket : Reading → List ℕ → List ℕ → ℕ × List ℕ × List ℕ
 returnedPacket answer packet flags = ifRoom packet flags (readingResult answer packet flags) (short, packet, flags)
 
--- What a look ahead shows is written: the packet's numbers as the one entry gives them, whatever stands behind them, with as many flags as the
--- run has nodes and room for any text.
+-- What a look ahead shows is written: where the one entry has returned 0, the other returns 0 for the slice that it has left, with as many flags as
+-- the run has nodes and room for any text.
 abbrev pub SeenIsWritten : Type 0
 SeenIsWritten =
-    (q : RowsOrTopology) (c : Config) (k : ℕ) (seen : SeenRound) →
-    previewFor q c k ≡ Preview.Seen seen →
-    (behind text written : List ℕ) →
+    (q : RowsOrTopology) (c : Config) (k : ℕ) (packet part text written : List ℕ) →
+    returnedPreview (previewFor q c k) packet part .0 ≡ 0 →
     textMost ≤ length text →
     1 ≤ length written →
-    returnedText (packetNumbers (seen .packet) ++ behind) (givenFor q c .nodes) text written .0 ≡ 0
+    returnedText (returnedPreview (previewFor q c k) packet part .1) (givenFor q c .nodes) text written .0 ≡ 0

@@ -1,12 +1,12 @@
 -- What is written can be read again. Assumes nothing.
-use Prim.Native.Nat.{ℕ, _≤_}
+use Prim.Native.Nat.{ℕ}
 use mathlib.Core.Path.{_≡_, refl, ap, _∙_}
 use mathlib.Core.Bool.{true, _&&_}
 use mathlib.Core.List.{List, [], _∷_, _++_}
 use mathlib.Core.Option.{Option, none, some}
 use native.Mathlib.Omega.{arith}
 use lib.Dec.{leb}
-use lib.ListN.{length}
+use lib.ListN.{length, length-append}
 use Rattle.metrics.specs.declared.summary.Summary.{Summary}
 use Rattle.phy.specs.Packets.{nackTerm, lastAcceptedTerm, dataTerm, piggybackTerm, piggybackData}
 use Rattle.phy.specs.declared.packet.LastAccepted.{LastAccepted}
@@ -54,8 +54,9 @@ one-by-one p l =
     ∷ two-numbers (nackTerm (p .«nack_term»)) i ++ two-numbers (lastAcceptedTerm (p .«last_accepted_term»)) i ++ two-numbers (dataTerm (p .«proposal_data»)) i
     ++ two-numbers (piggybackTerm (p .piggyback)) i ++ two-numbers (dataTerm (piggybackData (p .piggyback))) i ++ l
 
-pub packet-places : (p : Packet) (l : List ℕ) → packetSize ≤ length (packetNumbers p ++ l)
-packet-places p l = omega (arith, ap length (one-by-one p l))
+-- so they are thirteen
+pub packet-length : (p : Packet) → length (packetNumbers p) ≡ packetSize
+packet-length p = omega (arith, ap length (one-by-one p []), length-append (packetNumbers p) [])
 
 term-formed : (o : Option ℕ) → formedTerm (given o) (term o) ≡ true
 unfolding formedTerm

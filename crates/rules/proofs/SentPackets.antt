@@ -310,7 +310,7 @@ module _ (n P : ℕ) (few : n ≤ setBits) (most : P ≤ maxTerms) where
 
 -- ---- all rounds of a run
 
--- after k rounds
+-- between two rounds: what the nodes share is in order, and so was every packet
 record Sent (g : Given) (r : Running) : Type 0 where
   order : InOrder (g .nodes) (g .proposals) (r .shared)
   past : (i : ℕ) (p : Past) → getElem? (r .rounds) i ≡ some p → SentPacket (g .nodes) (p .packet)

@@ -26,7 +26,7 @@ pub record SentPacket (n : ℕ) (p : Packet) : Type 0 where
   pub last : lastBelow maxTerms (p .«last_accepted_term»)
   pub nack : nackBelow maxTerms (p .«nack_term»)
   pub back : backBelow maxTerms (p .piggyback)
-  -- data is that of its term
+  -- proposal data is empty or that of the current term, and a piggyback's data that of its own
   pub own : OwnPacket p
 
 -- every packet of every accepted run, whatever its receptions
