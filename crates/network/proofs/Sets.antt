@@ -4,13 +4,14 @@ use mathlib.Core.Path.{_≡_, refl, sym, ap, ap₂, _∙_, subst}
 use mathlib.Core.Bool.{Bool, true, false, cond, _&&_, _||_, Bool·beq, true≢false}
 use mathlib.Core.Logic.{_⊎_, inl, inr, ⊎-elim}
 use Prim.Native.Nat.{ℕ, zero, suc, _+_, _-_, _*_, _/_, _%_, _^_, _≤_, _<_, zero-le, suc-le-suc}
-use native.Mathlib.Nat.{not-suc-le-zero, le-of-suc-le-suc, eq-or-lt-of-le, le-refl, le-of-eq, le-step, le-of-lt, lt-irrefl, lt-of-lt-of-le, div-eq-of-lt, mod-lt, pow-suc, add-zero, zero-add, add-comm, zero-mul, one-mul, le-dest, mod-eq-of-lt, div-lt-iff-lt-mul, mul-comm}
+use native.Mathlib.Nat.{not-suc-le-zero, le-of-suc-le-suc, eq-or-lt-of-le, le-refl, le-of-eq, le-step, le-of-lt, lt-irrefl, lt-of-lt-of-le, div-eq-of-lt, mod-lt, pow-suc, add-zero, zero-add, add-comm, zero-mul, one-mul, mod-eq-of-lt, div-lt-iff-lt-mul, mul-comm}
 use native.Mathlib.Numerals.{add-one}
 use native.Mathlib.Omega.{arith}
 use lib.Bits.{bitOr, or-shr, or-mod, or-shifted-r}
-use lib.Pow.{pow-pos, pow-mono, pow-lt, split, high, low, field, mod-mod-pow}
+use lib.Pow.{pow-pos, pow-mono, pow-lt, split, high, low}
 use lib.Dec.{eqb}
 use borrow.Author.Tests.{eq-eqb, ne-eqb}
+use Rattle.random.proofs.Bits.{bit-low}
 use Rattle.network.specs.Graph.{has, setOf, any, all, count}
 
 -- ---- Booleans
@@ -100,13 +101,7 @@ all-cong (suc n) e = ap₂ _&&_ (all-cong n (λ i h. e i (le-step h))) (e n (le-
 -- ---- a digit of a number
 pub has-low : (s n j : ℕ) → j < n → has (s % 2 ^ n) j ≡ has s j
 unfolding has
-has-low s n j h =
-    let r = le-dest h in
-    let e : r .0 + 1 + j ≡ n = omega (arith, r .1) in
-    ap (λ (x : ℕ). eqb x 1)
-    (ap (λ (m : ℕ). s % 2 ^ m / 2 ^ j % 2) (sym e)
-    ∙ ap (λ (x : ℕ). x % 2) (field s (r .0 + 1) j)
-    ∙ mod-mod-pow (s / 2 ^ j) (r .0) 1)
+has-low s n j h = ap (λ (x : ℕ). eqb x 1) (bit-low s n j h)
 
 pub has-out : {s n : ℕ} → s < 2 ^ n → (j : ℕ) → n ≤ j → has s j ≡ false
 unfolding has
@@ -120,22 +115,22 @@ has-below {s} {n} h j e = ⊎-elim (λ p. p) (λ p. never e (has-out h j p)) (sp
     split-at zero (suc n) = inl (suc-le-suc zero-le)
     split-at (suc j) (suc n) = ⊎-elim (λ p. inl (suc-le-suc p)) (λ p. inr (suc-le-suc p)) (split-at j n)
 
-bit : ℕ → Bool → ℕ
-bit n b = cond b 1 0
+oneIf : Bool → ℕ
+oneIf b = cond b 1 0
 
-bit-pow : (n : ℕ) (b : Bool) → cond b (2 ^ n) 0 ≡ bit n b * 2 ^ n
-unfolding bit
-bit-pow n true = sym (one-mul (2 ^ n))
-bit-pow n false = sym (zero-mul (2 ^ n))
+oneIf-pow : (n : ℕ) (b : Bool) → cond b (2 ^ n) 0 ≡ oneIf b * 2 ^ n
+unfolding oneIf
+oneIf-pow n true = sym (one-mul (2 ^ n))
+oneIf-pow n false = sym (zero-mul (2 ^ n))
 
-bit-test : (n : ℕ) (b : Bool) → eqb (bit n b % 2) 1 ≡ b
-unfolding bit
-bit-test n true = refl
-bit-test n false = refl
+oneIf-test : (b : Bool) → eqb (oneIf b % 2) 1 ≡ b
+unfolding oneIf
+oneIf-test true = refl
+oneIf-test false = refl
 
-setOf-suc : (n : ℕ) (f : ℕ → Bool) → setOf (suc n) f ≡ bit n (f n) * 2 ^ n + setOf n f
+setOf-suc : (n : ℕ) (f : ℕ → Bool) → setOf (suc n) f ≡ oneIf (f n) * 2 ^ n + setOf n f
 unfolding setOf
-setOf-suc n f = add-comm (setOf n f) (cond (f n) (2 ^ n) 0) ∙ ap (λ (x : ℕ). x + setOf n f) (bit-pow n (f n))
+setOf-suc n f = add-comm (setOf n f) (cond (f n) (2 ^ n) 0) ∙ ap (λ (x : ℕ). x + setOf n f) (oneIf-pow n (f n))
 
 pub setOf-lt : (n : ℕ) (f : ℕ → Bool) → setOf n f < 2 ^ n
 unfolding setOf
@@ -155,12 +150,12 @@ has-setOf (suc n) f j h =
     ⊎-elim
     (λ p.
     ap (has (setOf (suc n) f)) p
-    ∙ ap (λ (x : ℕ). eqb (x % 2) 1) (ap (λ (x : ℕ). x / 2 ^ n) (setOf-suc n f) ∙ high (bit n (f n)) n (setOf-lt n f))
-    ∙ bit-test n (f n)
+    ∙ ap (λ (x : ℕ). eqb (x % 2) 1) (ap (λ (x : ℕ). x / 2 ^ n) (setOf-suc n f) ∙ high (oneIf (f n)) n (setOf-lt n f))
+    ∙ oneIf-test (f n)
     ∙ ap f (sym p))
     (λ l.
     sym (has-low (setOf (suc n) f) n j l)
-    ∙ ap (λ (x : ℕ). has x j) (ap (λ (x : ℕ). x % 2 ^ n) (setOf-suc n f) ∙ low (bit n (f n)) n (setOf-lt n f))
+    ∙ ap (λ (x : ℕ). has x j) (ap (λ (x : ℕ). x % 2 ^ n) (setOf-suc n f) ∙ low (oneIf (f n)) n (setOf-lt n f))
     ∙ has-setOf n f j l)
     (last-or-below h)
 

@@ -1,7 +1,7 @@
 // Operations on machine words that the language leaves out: a product that wraps, and rotations.
 ghost use mathlib.Core.Path.{_≡_};
 ghost use Prim.Native.Nat.{_*_, _%_, _^_, _<_, _≤_};
-ghost use Rattle.random.specs.Word.{rotateLeft, rotateRight};
+ghost use Rattle.random.specs.Word.{rotateLeft, rotateRight, RotatedRight};
 
 // a times b, modulo 2^64, from halves of 32 bits: the product of the upper halves lies above bit
 // 63, and of the two cross products only the lower halves count.
@@ -24,11 +24,11 @@ pub fn rotate_left(x: u32, k: u32) -> u32
     (x << k) | (x >> (32 - k))
 }
 
-// x rotated right by k of its 32 bits: the word twice in a row, moved down by k.
+// x rotated right by k of its 32 bits. Down by k and up by (32 - k) % 32 are both by -k modulo 32, and
+// a bit that one shift moves out of the word the other keeps in it.
 pub fn rotate_right(x: u32, k: u32) -> u32
     requires { ⌜ k < 32 ⌝ }
-    ensures { λ r. ⌜ r ≡ rotateRight x k ⌝ }
+    ensures { λ r. ⌜ (r ≡ rotateRight x k) × RotatedRight x k r ⌝ }
 {
-    let twice = (x as u64) * 0x1_0000_0001;
-    ((twice >> k) % 0x1_0000_0000) as u32
+    (x >> k) | (x << ((32 - k) % 32))
 }

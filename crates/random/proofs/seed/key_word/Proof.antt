@@ -5,7 +5,7 @@ use Rattle.random.proofs.seed.key_word.Tie as tie
 
 returns : tie.Need-returns
 unfolding keyWord
-returns c = c .rotate-right .ensures
+returns c = c .rotate-right .ensures .0
 
 pub key-word-spec : {M : Type 1} → statement M
 key-word-spec =

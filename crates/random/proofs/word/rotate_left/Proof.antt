@@ -1,5 +1,5 @@
 use borrow.Author.Needs.{needs}
-use Rattle.random.proofs.Words.{shifts-rotate-left}
+use Rattle.random.proofs.Rotations.{shifts-rotate-left}
 use Rattle.random.proofs.word.rotate_left.Statement.{statement}
 use Rattle.random.proofs.word.rotate_left.Tie as tie
 

@@ -1,10 +1,16 @@
+use mathlib.Core.Path.{sym, subst}
 use borrow.Author.Needs.{needs}
-use Rattle.random.proofs.Words.{twice-rotates-right}
+use Rattle.random.specs.Word.{RotatedRight}
+use Rattle.random.proofs.Rotations.{shifts-rotate-right, rotates-right}
 use Rattle.random.proofs.word.rotate_right.Statement.{statement}
 use Rattle.random.proofs.word.rotate_right.Tie as tie
 
 returns : tie.Need-returns
-returns c = twice-rotates-right (c .args .x) (c .args .k) (c .fits .x .fits) (search needs)
+returns c =
+    let x = c .args .x in
+    let k = c .args .k in
+    let e = shifts-rotate-right x k (c .fits .x .fits) (search needs) in
+    (e, subst (RotatedRight x k) (sym e) (rotates-right x k (c .fits .x .fits) (search needs)))
 
 pub rotate-right-spec : {M : Type 1} → statement M
 rotate-right-spec =

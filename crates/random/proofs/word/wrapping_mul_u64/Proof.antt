@@ -3,7 +3,7 @@ use mathlib.Core.Path.{ap, _∙_}
 use native.Mathlib.Omega.{arith}
 use borrow.Author.Needs.{needs}
 use lib.Pow.{mod-mod-pow}
-use Rattle.random.proofs.Words.{product-lt, product-mod}
+use Rattle.random.proofs.Products.{product-lt, product-mod}
 use Rattle.random.proofs.word.wrapping_mul_u64.Statement.{statement}
 use Rattle.random.proofs.word.wrapping_mul_u64.Tie as tie
 
