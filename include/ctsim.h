@@ -70,14 +70,15 @@ enum ctsim_topology {
 /* How many places the slices need. */
 enum ctsim_length {
     CTSIM_MAX_NODES = 32,
-    CTSIM_SUMMARY_LENGTH = 16,
+    CTSIM_SUMMARY_LENGTH = 17,
     CTSIM_LOGS_LENGTH = 2080,
     CTSIM_RECORDS_LENGTH = 192,
     CTSIM_PACKET_LENGTH = 13,
     CTSIM_TEXT_LENGTH = 366 /* no text is longer: each fits into that many bytes */
 };
 
-/* The places of a summary. */
+/* The places of a summary. The first fifteen are the numbers of the first three lines that ./ctsim
+ * prints, in their order. */
 enum ctsim_summary {
     CTSIM_NODES = 0,        /* nodes */
     CTSIM_ROUNDS = 1,       /* rounds that were run */
@@ -93,10 +94,12 @@ enum ctsim_summary {
     CTSIM_FLOOD_ROUNDS = 9, /* rounds, once more */
     CTSIM_FLOOD_NODES = 10, /* nodes * rounds */
     CTSIM_COVERED = 11,     /* nodes that held a packet equal to the round's after it, over all rounds */
-    CTSIM_NACKS = 12,       /* rounds whose starting node asked for a missing term above 0 */
-    CTSIM_PIGGYBACKS = 13,  /* nodes that took part and held that term, over all rounds */
-    CTSIM_RECORDS = 14,     /* records: terms that some node has committed */
-    CTSIM_SNAPSHOTS = 15    /* snapshots that were taken, whether they fitted or not */
+    CTSIM_TOOK_PART = 12,   /* nodes that took part in the round, the starting node among them, over all
+                               rounds; always as many as CTSIM_COVERED */
+    CTSIM_NACKS = 13,       /* rounds whose starting node asked for a missing term above 0 */
+    CTSIM_PIGGYBACKS = 14,  /* nodes that took part and held that term, over all rounds */
+    CTSIM_RECORDS = 15,     /* records: terms that some node has committed */
+    CTSIM_SNAPSHOTS = 16    /* snapshots that were taken, whether they fitted or not */
 };
 
 /* The places of a packet, of a run's or of a text's. "Whether" is 1 for yes and 0 for no; a term that
@@ -159,7 +162,7 @@ uint64_t ctsim_ratio(uint64_t part, uint64_t whole, double *out, size_t out_leng
 /*
  * The two ratios of a run, from its summary: successes over attempts, which is the packet delivery
  * ratio, and covered nodes over CTSIM_FLOOD_NODES. Each is written to out[0], as ctsim_ratio does.
- *   summary   at least 16 places, as a run has written them
+ *   summary   at least 17 places, as a run has written them
  *   out       at least 1 place
  * Returns 0, 11, 100, or 101 where there is no ratio.
  */
@@ -182,7 +185,7 @@ uint64_t ctsim_flood_coverage(const uint64_t *summary, size_t summary_length,
  *   interval           a snapshot is taken in slots 0, interval, 2 * interval .. while rounds run;
  *                      at least 1
  *   limit              a round starts only before this slot; any number
- *   summary            at least 16 places: the numbers of `enum ctsim_summary`
+ *   summary            at least 17 places: the numbers of `enum ctsim_summary`
  *   logs               at least 2,080 places: logs[64 * i] and on has the terms of node i's log,
  *                      logs[2048 + i] their count
  *   records            at least 192 places: records[3 * k] and on has the term of record k, the slot

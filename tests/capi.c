@@ -146,18 +146,19 @@ static void ratios_give(const uint64_t *of, size_t of_length, size_t length, uin
 
 static void test_ratios(void)
 {
-    uint64_t of[CTSIM_SUMMARY_LENGTH] = { 3, 5, 13, 1, 14, 14, 11, 10, 9, 5, 15, 14, 1, 2, 3, 7 };
+    uint64_t of[CTSIM_SUMMARY_LENGTH] = { 3, 5, 13, 1, 14, 14, 11, 10, 9, 5, 15, 14, 13, 1, 2, 3, 7 };
+    const size_t all = COUNT(of);
 
-    ratios_give(of, 16, 1, 0, 0.9, 14.0 / 15.0, "ratios: of a summary");
-    ratios_give(of, 16, 3, 0, 0.9, 14.0 / 15.0, "ratios: long");
-    ratios_give(of, 15, 1, CTSIM_SHORT, 0, 0, "ratios: summary one short, 100");
-    ratios_give(of, 16, 0, CTSIM_SHORT, 0, 0, "ratios: empty, 100");
+    ratios_give(of, all, 1, 0, 0.9, 14.0 / 15.0, "ratios: of a summary");
+    ratios_give(of, all, 3, 0, 0.9, 14.0 / 15.0, "ratios: long");
+    ratios_give(of, all - 1, 1, CTSIM_SHORT, 0, 0, "ratios: summary one short, 100");
+    ratios_give(of, all, 0, CTSIM_SHORT, 0, 0, "ratios: empty, 100");
     of[CTSIM_ATTEMPTS] = 0;
     of[CTSIM_FLOOD_NODES] = 0;
-    ratios_give(of, 16, 1, CTSIM_NO_RATIO, 0, 0, "ratios: none, 101");
+    ratios_give(of, all, 1, CTSIM_NO_RATIO, 0, 0, "ratios: none, 101");
     of[CTSIM_SUCCESSES] = ((uint64_t)1 << 53) + 1;
     of[CTSIM_COVERED] = ((uint64_t)1 << 53) + 1;
-    ratios_give(of, 16, 1, 11, 0, 0, "ratios: refused 11");
+    ratios_give(of, all, 1, 11, 0, 0, "ratios: refused 11");
 }
 
 static void refused(struct run r, uint64_t number, const char *what)
@@ -170,7 +171,7 @@ static void refused(struct run r, uint64_t number, const char *what)
 /* The printed run, whose slices are as long as r says, at least as long as needed. */
 static void printed(struct run r, const char *what)
 {
-    static const uint64_t numbers[] = {3, 2, 5, 1, 5, 6, 4, 4, 4, 2, 6, 6, 0, 0, 1, 3};
+    static const uint64_t numbers[] = {3, 2, 5, 1, 5, 6, 4, 4, 4, 2, 6, 6, 6, 0, 0, 1, 3};
     static const uint64_t record[] = {0, 0, 3};
     static const uint64_t shots[] = {0, 0, 2, 1, 0, 2, 0, 0, 1, 2, 4, 0, 0, 2, 1};
     size_t fit = r.snapshots_length / 5 < 3 ? r.snapshots_length / 5 : 3;
@@ -194,7 +195,7 @@ static void test_questions(struct run good)
 {
     struct run r;
 
-    r = good; r.summary_length = 15; refused(r, CTSIM_SHORT, "run: summary one short, 100");
+    r = good; r.summary_length--; refused(r, CTSIM_SHORT, "run: summary one short, 100");
     r = good; r.summary_length = 0; r.repeats = 0; refused(r, CTSIM_SHORT, "run: 100 comes first");
     r = good; r.repeats = 0; refused(r, 5, "run: refused 5");
     r = good; r.repeats = 65; refused(r, 5, "run: refused 5");
@@ -242,7 +243,7 @@ static void test_runs(void)
 /* A topology and its rows come to the same run, and to these numbers. */
 static void test_loss(void)
 {
-    static const uint64_t numbers[] = {16, 52, 251, 2, 2759, 849, 408, 1150, 564, 52, 832, 359, 24, 53};
+    static const uint64_t numbers[] = {16, 52, 251, 2, 2759, 849, 408, 1150, 564, 52, 832, 359, 359, 24, 53};
     struct results first;
     uint64_t n[1];
     uint32_t rows[32];

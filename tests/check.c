@@ -42,7 +42,8 @@ int holds(const void *array, size_t size, size_t before, const void *bytes, size
 const struct run lossy = {
     .topology = CTSIM_GRID, .first = 4, .second = 4, .repeats = 2, .given = 1, .round_slots = 5,
     .loss = 0.5, .seed = 99, .proposals = 20, .interval = 2, .limit = 100000,
-    .summary_length = 16, .logs_length = 2080, .records_length = 192, .snapshots_length = 31,
+    .summary_length = CTSIM_SUMMARY_LENGTH, .logs_length = 2080, .records_length = 192,
+    .snapshots_length = 31,
     .packet_length = 13, .part_length = 1,
 };
 

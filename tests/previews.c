@@ -181,20 +181,21 @@ static uint64_t size(uint64_t set)
     return n;
 }
 
-/* Each round of a run with this end is seen, and none behind. Together they have the NACKs and the
- * covered nodes of the summary. */
+/* Each round of a run with this end is seen, and none behind. Together they have the summary's NACKs
+ * and nodes that took part, which are as many as the covered ones. */
 static void all_rounds(struct run r, uint64_t end, const char *what)
 {
-    uint64_t rounds = 0, nacks = 0, covered = 0;
+    uint64_t rounds = 0, nacks = 0, took_part = 0;
 
     check(run(&r) == 0 && summary[1 + CTSIM_ENDED] == end, what);
     for (r.round = 0; r.round < summary[1 + CTSIM_ROUNDS]; r.round++) {
         rounds += preview(&r) == 0;
         nacks += packet[1 + CTSIM_PACKET_NACK_GIVEN];
-        covered += size(part[1]);
+        took_part += size(part[1]);
     }
     check(rounds == summary[1 + CTSIM_ROUNDS], what);
-    check(nacks == summary[1 + CTSIM_NACKS] && covered == summary[1 + CTSIM_COVERED], what);
+    check(nacks == summary[1 + CTSIM_NACKS] && took_part == summary[1 + CTSIM_TOOK_PART], what);
+    check(took_part == summary[1 + CTSIM_COVERED], what);
     unseen(r, CTSIM_REFUSED_ROUND, what);
 }
 

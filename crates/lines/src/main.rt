@@ -120,6 +120,7 @@ fn printed_summary() -> Summary {
         flood_rounds: 2,
         flood_nodes: 6,
         covered: 6,
+        took_part: 6,
         nacks: 0,
         piggybacks: 0,
         records: 1,
@@ -127,7 +128,7 @@ fn printed_summary() -> Summary {
     }
 }
 
-// Its listing; then with no snapshot stored, and the logs empty, of one term and full.
+// Its listing; then with fewer nodes that took part, no snapshot stored, and the logs empty, of one term and full.
 fn listings() {
     let records = [0u64, 0, 3];
     let snapshots = [0u64, 0, 2, 1, 0, 2, 0, 0, 1, 2, 4, 0, 0, 2, 1];
@@ -141,13 +142,9 @@ fn listings() {
     logs[2048] = 0;
     logs[2050] = 64;
     logs[191] = 63;
-    let m = write_listing(
-        printed_summary(),
-        &records,
-        &snapshots[..4],
-        &logs,
-        &mut out,
-    );
+    let mut other = printed_summary();
+    other.took_part = 5;
+    let m = write_listing(other, &records, &snapshots[..4], &logs, &mut out);
     print_first(&out, m);
 }
 

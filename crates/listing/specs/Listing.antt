@@ -1,45 +1,49 @@
 -- The program's listing (rules 11.1 to 11.7).
 use Prim.Native.Nat.{ℕ, _+_, _-_, _*_, _/_, min}
 use Prim.Native.String.{String}
-use mathlib.Core.List.{List, _++_}
+use mathlib.Core.List.{List, [], _∷_, _++_}
 use lib.ListN.{length, getD}
 use Rattle.config.specs.Limits.{maxNodes, maxTerms, maxListed, recordSize, snapshotSize, logCounts}
 use Rattle.text.specs.Text.{ascii, spelled, each, numberMost}
 use Rattle.metrics.specs.declared.summary.Summary.{Summary}
+use Rattle.metrics.specs.Totals.{runTotals, radioTotals, linkTotals}
 use Rattle.listing.specs.declared.write.Lines.{Lines}
 
 -- a word with a number behind it
 unfoldable pub labelled : String → ℕ → List ℕ
 labelled word n = ascii word ++ spelled n
 
+-- a line: each word with its number behind it, up to the end of either list
+unfoldable pub lineWith : List String → List ℕ → List ℕ
+lineWith [] numbers = ascii "\n"
+lineWith (word ∷ words) [] = ascii "\n"
+lineWith (word ∷ words) (n ∷ numbers) = labelled word n ++ lineWith words numbers
+
 -- the run: how many nodes, rounds and slots, and its end number
 unfoldable pub runLine : Summary → List ℕ
-runLine s =
-    labelled "nodes " (s .nodes) ++ labelled " rounds " (s .rounds) ++ labelled " slots " (s .slots) ++ labelled " ended " (s .ended) ++ ascii "\n"
+runLine s = lineWith ("nodes " ∷ " rounds " ∷ " slots " ∷ " ended " ∷ []) (runTotals s)
 
 -- the slots of all nodes
 unfoldable pub radioLine : Summary → List ℕ
-radioLine s = labelled "listen " (s .listen) ++ labelled " flood " (s .flood) ++ labelled " sleep " (s .sleep) ++ ascii "\n"
+radioLine s = lineWith ("listen " ∷ " flood " ∷ " sleep " ∷ []) (radioTotals s)
 
--- links: attempts, successes; floods: rounds, nodes, covered; recovery: NACKs, piggybacks
+-- links: attempts, successes; floods: rounds, nodes, covered, took part; recovery: NACKs, piggybacks
 unfoldable pub linkLine : Summary → List ℕ
-linkLine s =
-    labelled "links " (s .attempts) ++ labelled " " (s .successes)
-    ++ labelled " floods " (s .«flood_rounds») ++ labelled " " (s .«flood_nodes») ++ labelled " " (s .covered)
-    ++ labelled " recovery " (s .nacks) ++ labelled " " (s .piggybacks) ++ ascii "\n"
+linkLine s = lineWith ("links " ∷ " " ∷ " floods " ∷ " " ∷ " " ∷ " " ∷ " recovery " ∷ " " ∷ []) (linkTotals s)
 
 -- record i of the buffer: id, start, end, latency
 unfoldable pub proposalLine : List ℕ → ℕ → List ℕ
 proposalLine records i =
     let start = getD records (recordSize * i + 1) 0 in
     let end = getD records (recordSize * i + 2) 0 in
-    labelled "proposal " (getD records (recordSize * i) 0) ++ labelled " " start ++ labelled " " end ++ labelled " " (end - start) ++ ascii "\n"
+    lineWith ("proposal " ∷ " " ∷ " " ∷ " " ∷ []) (getD records (recordSize * i) 0 ∷ start ∷ end ∷ (end - start) ∷ [])
 
 -- snapshot i of the buffer: slot, progress, listening, flooding, sleeping
 unfoldable pub snapshotLine : List ℕ → ℕ → List ℕ
 snapshotLine snapshots i =
-    labelled "snapshot " (getD snapshots (snapshotSize * i) 0) ++ labelled " " (getD snapshots (snapshotSize * i + 1) 0) ++ labelled " " (getD snapshots (snapshotSize * i + 2) 0)
-    ++ labelled " " (getD snapshots (snapshotSize * i + 3) 0) ++ labelled " " (getD snapshots (snapshotSize * i + 4) 0) ++ ascii "\n"
+    let place : ℕ = snapshotSize * i in
+    lineWith ("snapshot " ∷ " " ∷ " " ∷ " " ∷ " " ∷ [])
+    (getD snapshots place 0 ∷ getD snapshots (place + 1) 0 ∷ getD snapshots (place + 2) 0 ∷ getD snapshots (place + 3) 0 ∷ getD snapshots (place + 4) 0 ∷ [])
 
 -- term k of node i's log
 unfoldable pub termText : List ℕ → ℕ → ℕ → List ℕ
@@ -72,7 +76,7 @@ listing s records snapshots logs =
 
 -- the refusal of a number
 unfoldable pub refusalText : ℕ → List ℕ
-refusalText n = labelled "refused " n ++ ascii "\n"
+refusalText n = lineWith ("refused " ∷ []) (n ∷ [])
 
 -- How many bytes each part of a listing has at most: a word of the listing has at most 10 bytes; the bounds of the lines follow.
 abbrev pub wordMost : ℕ
@@ -92,7 +96,7 @@ abbrev pub radioLineMost : ℕ
 radioLineMost = 3 * labelledMost + 1
 
 abbrev pub linkLineMost : ℕ
-linkLineMost = 3 * labelledMost + 4 * spacedMost + 1
+linkLineMost = 3 * labelledMost + 5 * spacedMost + 1
 
 abbrev pub proposalLineMost : ℕ
 proposalLineMost = labelledMost + 3 * spacedMost + 1

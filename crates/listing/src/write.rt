@@ -19,7 +19,7 @@ use metrics::summary::Summary;
 use text::overlay::put;
 
 // No listing has more bytes: `listingMost` adds them up.
-pub const LISTING_SIZE: usize = 165403;
+pub const LISTING_SIZE: usize = 165424;
 
 // The lists of the listing, which have a line an item.
 enum Lines {
@@ -86,9 +86,10 @@ fn put_link_line(s: Summary, out: &mut [u8], at: usize) -> usize
     let c = put_labelled(b" floods ", s.flood_rounds, out, b);
     let d = put_spaced(s.flood_nodes, out, c);
     let e = put_spaced(s.covered, out, d);
-    let f = put_labelled(b" recovery ", s.nacks, out, e);
-    let g = put_spaced(s.piggybacks, out, f);
-    put(b'\n', out, g)
+    let f = put_spaced(s.took_part, out, e);
+    let g = put_labelled(b" recovery ", s.nacks, out, f);
+    let h = put_spaced(s.piggybacks, out, g);
+    put(b'\n', out, h)
 }
 
 // Record i.

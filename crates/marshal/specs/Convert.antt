@@ -1,7 +1,7 @@
 -- A call's numbers as a configuration, and a summary and a ratio as numbers (rules 7.5 and 9.4).
 use Prim.Native.Nat.{ℕ}
 use mathlib.Core.Bool.{cond}
-use mathlib.Core.List.{List, [], _∷_}
+use mathlib.Core.List.{List, [], _∷_, _++_}
 use lib.Dec.{eqb}
 use lib.Ieee.{Float}
 use lib.ListN.{getD}
@@ -10,6 +10,7 @@ use Rattle.config.specs.declared.RoundSlots.{RoundSlots}
 use Rattle.config.specs.declared.Config.{Config}
 use Rattle.metrics.specs.declared.summary.Summary.{Summary}
 use Rattle.metrics.specs.declared.ratios.Ratio.{Ratio}
+use Rattle.metrics.specs.Totals.{totals}
 use Rattle.rules.specs.declared.answer.Answer.{Answer}
 
 -- the configuration of a run; round slots are absent where `present` is 0
@@ -30,28 +31,11 @@ configFrom repeats present slots loss seed proposals interval limit =
 
 -- the summary's places
 abbrev pub summarySize : ℕ
-summarySize = 16
+summarySize = 17
 
--- the summary's numbers, in the order of rule 7.5
+-- the summary's numbers, in the order of rule 7.5: the listing's totals, the records and all snapshots that were taken
 abbrev pub summaryNumbers : Summary → List ℕ
-summaryNumbers s =
-    s .nodes
-    ∷ s .rounds
-    ∷ s .slots
-    ∷ s .ended
-    ∷ s .listen
-    ∷ s .flood
-    ∷ s .sleep
-    ∷ s .attempts
-    ∷ s .successes
-    ∷ s .«flood_rounds»
-    ∷ s .«flood_nodes»
-    ∷ s .covered
-    ∷ s .nacks
-    ∷ s .piggybacks
-    ∷ s .records
-    ∷ s .snapshots
-    ∷ []
+summaryNumbers s = totals s ++ s .records ∷ s .snapshots ∷ []
 
 -- a run's result, and the slice of its summary
 abbrev pub resultOf : Answer → ℕ
@@ -78,10 +62,11 @@ summaryAt l =
       «flood_rounds» = getD l 9 0;
       «flood_nodes» = getD l 10 0;
       covered = getD l 11 0;
-      nacks = getD l 12 0;
-      piggybacks = getD l 13 0;
-      records = getD l 14 0;
-      snapshots = getD l 15 0;
+      «took_part» = getD l 12 0;
+      nacks = getD l 13 0;
+      piggybacks = getD l 14 0;
+      records = getD l 15 0;
+      snapshots = getD l 16 0;
     }
 
 -- there is no ratio, as the divisor is 0

@@ -13,7 +13,7 @@ ghost use lib.Seq.{sets};
 ghost use Rattle.marshal.specs.Convert.{summarySize, slotsFrom, configFrom, summaryNumbers, summaryAt, ratioResult, resultOf, withSummary};
 
 // How many places a summary has.
-pub const SUMMARY_SIZE: usize = 16;
+pub const SUMMARY_SIZE: usize = 17;
 
 // No refusal: the divisor is 0, and there is no ratio.
 const NO_RATIO: u64 = 101;
@@ -69,10 +69,11 @@ fn write_summary(s: Summary, out: &mut [u64])
     out[9] = s.flood_rounds;
     out[10] = s.flood_nodes;
     out[11] = s.covered;
-    out[12] = s.nacks;
-    out[13] = s.piggybacks;
-    out[14] = s.records;
-    out[15] = s.snapshots;
+    out[12] = s.took_part;
+    out[13] = s.nacks;
+    out[14] = s.piggybacks;
+    out[15] = s.records;
+    out[16] = s.snapshots;
 }
 
 // The summary that was written to these places.
@@ -93,10 +94,11 @@ pub fn read_summary(s: &[u64]) -> Summary
         flood_rounds: s[9],
         flood_nodes: s[10],
         covered: s[11],
-        nacks: s[12],
-        piggybacks: s[13],
-        records: s[14],
-        snapshots: s[15],
+        took_part: s[12],
+        nacks: s[13],
+        piggybacks: s[14],
+        records: s[15],
+        snapshots: s[16],
     }
 }
 

@@ -13,6 +13,7 @@ pub struct Summary {
     pub flood_rounds: u64,
     pub flood_nodes: u64,
     pub covered: u64,
+    pub took_part: u64,
     pub nacks: u64,
     pub piggybacks: u64,
     pub records: u64,

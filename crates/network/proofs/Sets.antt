@@ -250,7 +250,7 @@ bits-le : (a b : Bool) → (a ≡ true → b ≡ true) → cond a 1 0 ≤ cond b
 bits-le true b h = subst (λ (x : Bool). 1 ≤ cond x 1 0) (sym (h refl)) (le-refl 1)
 bits-le false b h = zero-le
 
-count-mono : (n : ℕ) (f g : ℕ → Bool) → ((i : ℕ) → i < n → f i ≡ true → g i ≡ true) → count n f ≤ count n g
+pub count-mono : (n : ℕ) (f g : ℕ → Bool) → ((i : ℕ) → i < n → f i ≡ true → g i ≡ true) → count n f ≤ count n g
 unfolding count
 count-mono zero f g h = zero-le
 count-mono (suc n) f g h = omega (arith, count-mono n f g (λ i l. h i (le-step l)), bits-le (f n) (g n) (h n (le-refl (suc n))))

@@ -11,6 +11,7 @@ pub mod Attempts
 pub mod Count
 pub mod Counts
 pub mod Payloads
+pub mod Coverage
 pub mod Packets
 pub mod Starred
 pub mod Tries

@@ -11,7 +11,7 @@ use lib.Dec.{eqb, ltb}
 use borrow.Author.Tests.{lt-ltb, le-ltb, eqb-true, eqb-false}
 use Rattle.network.specs.Graph.{has, linked, setOf, Checked}
 use Rattle.network.specs.Distance.{distance, links, eccentricity, Joined}
-use Rattle.network.proofs.Sets.{two, never, setOf-cong, count-lt}
+use Rattle.network.proofs.Sets.{two, never, has-setOf, setOf-cong, count-lt}
 use Rattle.random.proofs.Tables.{getD-tabulate}
 use Rattle.network.proofs.Distances.{distance-self, distance-zero, distance-link, distance-before, joined-distance, eccentricity-bound, eccentricity-each}
 use Rattle.phy.specs.declared.node.Node.{Node}
@@ -22,7 +22,7 @@ use Rattle.config.specs.declared.RoundSlots.{RoundSlots}
 use Rattle.phy.specs.Packets.{payloadIs}
 use Rattle.phy.specs.Node.{new, transition, holding, begunBy, deliveredTo, listens, floods, sleeps, isFlooding, isSleeping}
 use Rattle.phy.specs.Slot.{Setup, Standing, at, howMany, ticked, triesIn, slotStep}
-use Rattle.phy.specs.Round.{lengthLimit, Flooded, begun, delivered, participants, coverage, withNodes, slots, round}
+use Rattle.phy.specs.Round.{lengthLimit, Flooded, tookPart, begun, delivered, participants, coverage, withNodes, slots, round}
 use Rattle.phy.proofs.Nodes.{at-ticked, at-moved, state-ticked}
 use Rattle.phy.proofs.Rounds.{slots-more, slots-last}
 use Rattle.phy.proofs.Packets.{same-packet-itself}
@@ -198,6 +198,9 @@ pub record Lossless (g : Setup) (a : ℕ) (packet : Packet) (s : Standing) (r : 
   pub covered : r .covered ≡ g .nodes
   -- attempts and successes grow by the same number
   pub tries : Even s (r .after)
+
+pub all-took-part : {g : Setup} {a : ℕ} {packet : Packet} {s : Standing} {r : Flooded} → Lossless g a packet s r → tookPart (g .nodes) r ≡ g .nodes
+all-took-part {g} {r = r} l = count-all (g .nodes) (has (r .part)) (λ j h. ap (λ (x : ℕ). has x j) (l .part) ∙ has-setOf (g .nodes) (λ _. true) j h)
 
 -- The lossless round. Premises: the rows pass the row check; paths join all nodes; the initiator is one of the nodes; a node floods in
 -- at least one slot; the limit leaves room for e + repeats slots; and every attempt of the round is heard.

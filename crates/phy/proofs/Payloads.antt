@@ -4,7 +4,7 @@ use mathlib.Core.Path.{_≡_, refl, sym, ap, _∙_}
 use mathlib.Core.Bool.{Bool, true, false, cond, _||_}
 use lib.Dec.{eqb}
 use borrow.Author.Tests.{eq-eqb}
-use Rattle.network.specs.Graph.{has, count}
+use Rattle.network.specs.Graph.{has}
 use Rattle.network.proofs.Sets.{never, has-setOf}
 use Rattle.random.proofs.Tables.{getD-tabulate}
 use Rattle.phy.specs.declared.node.Node.{Node}
@@ -12,12 +12,10 @@ use Rattle.phy.specs.declared.node.NodeState.{NodeState}
 use Rattle.phy.specs.declared.node.NodeState.the-variants.{Listen, Flood, Sleep}
 use Rattle.phy.specs.declared.node.Payload.{Payload}
 use Rattle.phy.specs.declared.packet.Packet.{Packet}
-use Rattle.phy.specs.Packets.{payloadIs}
 use Rattle.phy.specs.Node.{new, tick, tickIn, transition, transitionIn, holding, begunBy, deliveredTo, sleeps, isSleeping}
 use Rattle.phy.specs.Slot.{Setup, Standing, at, ticked, triesIn, slotStep}
-use Rattle.phy.specs.Round.{begun, delivered, participants, coverage, withNodes, slots, round}
-use Rattle.phy.proofs.Nodes.{delivered-state, at-ticked, at-moved, count-cong}
-use Rattle.phy.proofs.Packets.{same-packet-itself}
+use Rattle.phy.specs.Round.{begun, delivered, participants, withNodes, slots, round}
+use Rattle.phy.proofs.Nodes.{delivered-state, at-ticked, at-moved}
 use Rattle.phy.proofs.Counts.{along-slots}
 
 -- ---- the slots of a round change no payload
@@ -89,18 +87,3 @@ module _ (g : Setup) (longest initiator : ℕ) (packet : Packet) (s : Standing) 
       go true false e = e
       go false true e = refl
       go false false e = e
-
-  -- where no other node than the initiator held the round's packet before it, the covered nodes are those that took part
-  pub covered-round : ((j : ℕ) → j < g .nodes → (j ≡ initiator → ⊥) → payloadIs packet (at (s .nodes) j .payload) ≡ false)
-      → round g longest initiator packet s .covered ≡ count (g .nodes) (has (round g longest initiator packet s .part))
-  unfolding round coverage
-  covered-round others =
-      count-cong (g .nodes) _ (has part)
-      (λ j h. ap (payloadIs packet) (payload-round j h) ∙ go (has part j) (at (s .nodes) j .payload) (λ out. others j h (part-others j h out)))
-    where
-      part : ℕ
-      part = round g longest initiator packet s .part
-
-      go : (b : Bool) (old : Payload) → (b ≡ false → payloadIs packet old ≡ false) → payloadIs packet (cond b (Payload.Of packet) old) ≡ b
-      go true old e = same-packet-itself packet
-      go false old e = e refl

@@ -44,9 +44,9 @@ pub all-but : (n first : ℕ) → first < n → setOf n (λ (j : ℕ). not (eqb 
 all-but n first h = omega (arith, two-parts n (λ (j : ℕ). eqb j first), setOf-one n first h)
 
 -- ---- the nodes that took part, as a word
-pub took-part : (n first awake : ℕ) → first < n
+pub part-set : (n first awake : ℕ) → first < n
     → bitOr (2 ^ n - 1 - bitAnd (2 ^ n - 1) awake) (2 ^ first) ≡ setOf n (λ (k : ℕ). eqb k first || not (has awake k))
-took-part n first awake few =
+part-set n first awake few =
     set-is n _ (or-lt n (2 ^ n - 1 - bitAnd (2 ^ n - 1) awake) (2 ^ first) (omega (arith, pow-pos n)) (pow-lt few))
     (λ j p.
     has-or _ (2 ^ first) j

@@ -5,4 +5,5 @@ pub mod Node
 pub mod Slot
 pub mod Snapshots
 pub mod Round
+pub mod Coverage
 pub mod View

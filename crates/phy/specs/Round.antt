@@ -4,7 +4,7 @@ use mathlib.Core.Bool.{true, false, _||_}
 use mathlib.Core.List.{List}
 use lib.Dec.{eqb, ltb}
 use Rattle.random.specs.Table.{tabulate}
-use Rattle.network.specs.Graph.{setOf}
+use Rattle.network.specs.Graph.{has, setOf, count}
 use Rattle.phy.specs.declared.node.Node.{Node}
 use Rattle.phy.specs.declared.packet.Packet.{Packet}
 use Rattle.config.specs.declared.RoundSlots.{RoundSlots}
@@ -46,6 +46,10 @@ pub record Flooded : Type 0 where
   pub after : Standing
   pub part : ℕ
   pub covered : ℕ
+
+-- how many of n nodes took part: the size of that set
+abbrev pub tookPart : ℕ → Flooded → ℕ
+tookPart n r = count n (has (r .part))
 
 -- the same place in the run, with other node records
 abbrev pub withNodes : List Node → Standing → Standing

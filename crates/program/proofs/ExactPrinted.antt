@@ -65,6 +65,7 @@ summary =
       «flood_rounds» = 2;
       «flood_nodes» = 6;
       covered = 6;
+      «took_part» = 6;
       nacks = 0;
       piggybacks = 0;
       records = 1;

@@ -5,7 +5,7 @@ use mathlib.Core.List.{List, [], _∷_, _++_}
 use lib.ListN.{replicate}
 use Rattle.text.specs.Text.{ascii, spelledIn, spelled, each}
 use Rattle.line.specs.Line.{bytesBefore, prefixed, fields, isDash, roundSlots, _>>=_, fourDecimals, readFields, readLine}
-use Rattle.listing.specs.Listing.{labelled, runLine, radioLine, linkLine, proposalLine, snapshotLine, termText, logLine, listing}
+use Rattle.listing.specs.Listing.{labelled, lineWith, runLine, radioLine, linkLine, proposalLine, snapshotLine, termText, logLine, listing}
 use Rattle.text.specs.Numeral.{digit, allDigits, append, numeral, decimal, hexadecimal}
 use Rattle.line.specs.declared.read.Line.{Line}
 use Rattle.line.specs.declared.read.Read.the-variants.{Line as Read·Line}
@@ -43,6 +43,7 @@ summary =
       «flood_rounds» = 2;
       «flood_nodes» = 6;
       covered = 6;
+      «took_part» = 6;
       nacks = 0;
       piggybacks = 0;
       records = 1;
@@ -62,7 +63,7 @@ logs = replicate 2048 0 ++ (1 ∷ 1 ∷ 1 ∷ [])
 pub printed :
     (readLine (ascii "2 3 0 1 - 0000000000000000 7 1 2 1000\n") ≡ Read·Line exampleLine)
     × (listing summary records snapshots logs
-    ≡ ascii "nodes 3 rounds 2 slots 5 ended 1\nlisten 5 flood 6 sleep 4\nlinks 4 4 floods 2 6 6 recovery 0 0\nproposal 0 0 3 3\nsnapshot 0 0 2 1 0\nsnapshot 2 0 0 1 2\nsnapshot 4 0 0 2 1\nlog 0 0\nlog 1 0\nlog 2 0\n")
+    ≡ ascii "nodes 3 rounds 2 slots 5 ended 1\nlisten 5 flood 6 sleep 4\nlinks 4 4 floods 2 6 6 6 recovery 0 0\nproposal 0 0 3 3\nsnapshot 0 0 2 1 0\nsnapshot 2 0 0 1 2\nsnapshot 4 0 0 2 1\nlog 0 0\nlog 1 0\nlog 2 0\n")
 unfolding ascii bytesBefore prefixed fields isDash roundSlots _>>=_ fourDecimals readFields readLine digit allDigits append numeral decimal hexadecimal
-    spelledIn spelled labelled each runLine radioLine linkLine proposalLine snapshotLine termText logLine listing
+    spelledIn spelled labelled lineWith each runLine radioLine linkLine proposalLine snapshotLine termText logLine listing
 printed = (refl, refl)

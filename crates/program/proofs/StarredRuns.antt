@@ -27,7 +27,7 @@ use Rattle.protocol.specs.Turns.{announce, initiatorTurn, takeData, takePiggyba
 use Rattle.protocol.proofs.Starred.{starred}
 use Rattle.text.specs.Text.{ascii, spelledIn, spelled, each}
 use Rattle.line.specs.Line.{bytesBefore, prefixed, fields, isDash, roundSlots, _>>=_, fourDecimals, readFields, readLine}
-use Rattle.listing.specs.Listing.{labelled, runLine, radioLine, linkLine, proposalLine, snapshotLine, termText, logLine, listing}
+use Rattle.listing.specs.Listing.{labelled, lineWith, runLine, radioLine, linkLine, proposalLine, snapshotLine, termText, logLine, listing}
 use Rattle.text.specs.Numeral.{digit, allDigits, append, numeral, decimal, hexadecimal}
 use Rattle.metrics.specs.declared.summary.Summary.{Summary}
 use Rattle.rules.specs.declared.answer.Answer.the-variants.{Ran}
@@ -121,7 +121,7 @@ unfolding has all count linked widened greatest eccentricity diameter topologyRo
     gapIn detectGap find recovery announce initiatorTurn takeData takePiggyback takeVotes participantTurn rateAllowed runRefusalFor recorded
     recordAll prepareRound takeTurn turns processRound shortestFrom runRound complete endAfter roundsFrom runFor sumOf logsWith recordNumbers ranWith
     outcomeFor Ieee.le ofBits ascii bytesBefore prefixed fields isDash roundSlots _>>=_ fourDecimals readFields readLine digit allDigits append
-    numeral decimal hexadecimal spelledIn spelled labelled each runLine radioLine linkLine proposalLine snapshotLine termText logLine listing lineText
+    numeral decimal hexadecimal spelledIn spelled labelled lineWith each runLine radioLine linkLine proposalLine snapshotLine termText logLine listing lineText
     printed
 starred-runs =
     record {

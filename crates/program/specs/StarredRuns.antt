@@ -64,7 +64,7 @@ pub record StarredRuns : Type 0 where
   -- the printed run, byte for byte
   pub printed-run :
       printed (ascii "2 3 0 1 - 0000000000000000 7 1 2 1000\n")
-      ≡ ascii "nodes 3 rounds 2 slots 5 ended 1\nlisten 5 flood 6 sleep 4\nlinks 4 4 floods 2 6 6 recovery 0 0\nproposal 0 0 3 3\nsnapshot 0 0 2 1 0\nsnapshot 2 0 0 1 2\nsnapshot 4 0 0 2 1\nlog 0 0\nlog 1 0\nlog 2 0\n"
+      ≡ ascii "nodes 3 rounds 2 slots 5 ended 1\nlisten 5 flood 6 sleep 4\nlinks 4 4 floods 2 6 6 6 recovery 0 0\nproposal 0 0 3 3\nsnapshot 0 0 2 1 0\nsnapshot 2 0 0 1 2\nsnapshot 4 0 0 2 1\nlog 0 0\nlog 1 0\nlog 2 0\n"
   -- diameters: mesh 5: 1; line 32: 31; ring 5: 2; grid 2 by 3: 3; tree 7 by 2: 4; tree 4 by 0: 0
   pub diameters :
       (diameterOf 1 5 0 ∷ diameterOf 2 32 0 ∷ diameterOf 5 5 0 ∷ diameterOf 4 2 3 ∷ diameterOf 6 7 2 ∷ diameterOf 6 4 0 ∷ [])

@@ -1,7 +1,7 @@
 // Answers every line of its input as the Rust source does. The first 71 lines put each question
 // on both sides of its boundary; the next 664 were chosen among those of `oracle/`'s program
 // `inputs` (small, random and broken), so that each end, lossy runs, NACKs, piggybacks, graphs given
-// by rows and refusals are among them; three are at edges that those miss. The
+// by rows and refusals are among them; four are at edges that those miss. The
 // rest ask for one round: 12 of the printed run and about it, 350 chosen likewise among those of
 // `inputs previews`, and the rounds of the worked example of docs/RULES.md. `stdout` is what `oracle/`'s program `answer` prints for `stdin`.
 mod rounds_shown;

@@ -149,6 +149,6 @@ module _ (n : ℕ) (few : n ≤ maxNodes) where
         back = tt;
       }
 
-  pub new-run : {flood : Radios} → NewRadios n flood → NewRun n (record { flood = flood; carry = newCarry; covered = 0; progress = 0 })
+  pub new-run : {flood : Radios} → NewRadios n flood → NewRun n (record { flood = flood; carry = newCarry; «took_part» = 0; progress = 0 })
   new-run f =
-      record { flood = f; shared = new-shared; sharing = new-sharing; covered = refl; progress = refl; nacks = refl; piggybacks = refl }
+      record { flood = f; shared = new-shared; sharing = new-sharing; took-part = refl; progress = refl; nacks = refl; piggybacks = refl }

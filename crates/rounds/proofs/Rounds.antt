@@ -6,12 +6,11 @@ use native.Mathlib.Nat.{mod-lt}
 use native.Mathlib.Omega.{arith}
 use lib.Count.{ones}
 use Rattle.config.specs.Limits.{maxTerms, maxNodes, mostRounds}
-use Rattle.network.specs.Graph.{has, count}
 use Rattle.network.proofs.Sets.{has-setOf}
 use Rattle.phy.specs.declared.ci.Round.{Round}
 use Rattle.phy.specs.declared.slot.Radios.{Radios}
 use Rattle.phy.specs.declared.slot.Settings.{Settings}
-use Rattle.phy.specs.Round.{Flooded, lengthLimit, participants, round}
+use Rattle.phy.specs.Round.{Flooded, lengthLimit, participants, tookPart, round}
 use Rattle.phy.specs.View.{Tables, Sound, Stands, CanFlood, Rounded, asSetup}
 use Rattle.phy.proofs.Nodes.{count-cong, ones-setOf}
 use Rattle.pipeline.specs.declared.carry.Carry.{Carry}
@@ -19,15 +18,14 @@ use Rattle.pipeline.specs.declared.round.PreparedRound.{PreparedRound}
 use Rattle.pipeline.specs.Round.{Prepared, prepareRound, processRound}
 use Rattle.pipeline.specs.View.{sharedOf, MayPrepare, Prepares, MayProcess, Processes}
 use Rattle.rules.specs.Accepted.{Accepted}
-use Rattle.rules.specs.Run.{Given, Running, setupOf, preparedIn, floodedIn, runRound}
-use Rattle.rules.proofs.Coverage.{covered-part}
-use Rattle.rules.proofs.Rounds.{longest-few, covered-few}
+use Rattle.rules.specs.Run.{Given, Running, preparedIn, floodedIn, runRound}
+use Rattle.rules.proofs.Rounds.{longest-few, took-part-few}
 use Rattle.rounds.specs.declared.run.Plan.{Plan}
 use Rattle.rounds.specs.declared.run.Run.{Run}
 use Rattle.rounds.specs.Going.{planned, settingsOf, Workspace, workspace, lentOf, Shows, Steady, Going, Plays}
 
 -- how many nodes took part, counted in the word
-ones-part : (g : Given) (k : ℕ) (r : Running) → ones (floodedIn g k r .part) ≡ count (g .nodes) (has (floodedIn g k r .part))
+ones-part : (g : Given) (k : ℕ) (r : Running) → ones (floodedIn g k r .part) ≡ tookPart (g .nodes) (floodedIn g k r)
 unfolding round participants
 ones-part g k r = ones-setOf (g .nodes) _ ∙ count-cong (g .nodes) _ _ (λ j h. sym (has-setOf (g .nodes) _ j h))
 
@@ -74,7 +72,7 @@ module _ {graph : List ℕ} {p : Plan} {k : ℕ} {x : Run} {w : Workspace} {b₀
         stands = g₀ .shows .standing;
       })
 
-  -- what the three calls of a round give
+  -- what the four calls of a round give
   module _ {prepared : PreparedRound} {b t : List ℕ}
       (pr : Prepares (p .nodes) (p .config .«num_proposals») (record { 0 = k % p .nodes }) (x .flood .slot) (x .carry) (w .states) (w .history) prepared b t)
     where
@@ -89,12 +87,13 @@ module _ {graph : List ℕ} {p : Plan} {k : ℕ} {x : Run} {w : Workspace} {b₀
 
       module _ {y : Settings} {most : ℕ} {flooded : Round} {l : Tables} {carry : Carry} {b' t' : List ℕ} (q : y ≡ settingsOf p (x .progress)) (e : most ≡ longest)
           (fl₀ : Rounded y graph most (k % p .nodes) (x .flood) (lentOf w) flooded l)
-          (pc : Processes (p .nodes) (prepared .packet) (flooded .flood .slot) (flooded .part) (prepared .carry) b t carry b' t') where
+          (pc : Processes (p .nodes) (prepared .packet) (flooded .flood .slot) (flooded .part) (prepared .carry) b t carry b' t')
+          {size : ℕ} (sized : size ≡ ones (flooded .part)) where
         fl : Rounded (settingsOf p (x .progress)) graph most (k % p .nodes) (x .flood) (lentOf w) flooded l
         fl = subst (λ (z : Settings). Rounded z graph most (k % p .nodes) (x .flood) (lentOf w) flooded l) q fl₀
 
         abbrev after : Run
-        after = record { flood = flooded .flood; carry = carry; covered = x .covered + ones (flooded .part); progress = x .progress }
+        after = record { flood = flooded .flood; carry = carry; «took_part» = x .«took_part» + size; progress = x .progress }
 
         abbrev then : Workspace
         then = workspace (l .queue) (l .stream) b' t' (l .snapshots)
@@ -125,9 +124,8 @@ module _ {graph : List ℕ} {p : Plan} {k : ℕ} {x : Run} {w : Workspace} {b₀
           part-is : flooded .part ≡ floodedIn given k s .part
           part-is = _∙_ {b = here .part} (stood .1) (ap (λ (f : Flooded). f .part) flood-is)
 
-          -- the nodes that took part are counted, and they are the covered ones
-          covered-is : ones (flooded .part) ≡ floodedIn given k s .covered
-          covered-is = ap ones part-is ∙ ones-part given k s ∙ sym (covered-part given k s (g .packets))
+          took-part-is : size ≡ tookPart (p .nodes) (floodedIn given k s)
+          took-part-is = sized ∙ ap ones part-is ∙ ones-part given k s
 
           shows : Shows p after then b₁ (runRound given k s)
           unfolding runRound
@@ -139,11 +137,11 @@ module _ {graph : List ℕ} {p : Plan} {k : ℕ} {x : Run} {w : Workspace} {b₀
               record {
                 standing = standing;
                 shared = pc .shared ∙ (λ j. processRound (p .nodes) (packet-is j) (standing .slot j) (part-is j) (before j));
-                covered = ap₂ _+_ (g .shows .covered) covered-is;
+                took-part = ap₂ _+_ (g .shows .took-part) took-part-is;
               }
 
-        pub covered-fits : x .covered + ones (flooded .part) ≤ maxNodes * (k + 1)
-        covered-fits = omega (arith, covered-is g₀, covered-few (setupOf given (s₀ .shared)) longest (k % p .nodes) (preparedIn given k s₀ .packet) (s₀ .standing), ok .few, g₀ .steady .covered)
+        took-part-fits : x .«took_part» + size ≤ maxNodes * (k + 1)
+        took-part-fits = omega (arith, took-part-is g₀, took-part-few (p .nodes) (floodedIn given k s₀), ok .few, g₀ .steady .took-part)
 
         steady : Steady (given .heard) p (k + 1) after then
         steady =
@@ -154,7 +152,7 @@ module _ {graph : List ℕ} {p : Plan} {k : ℕ} {x : Run} {w : Workspace} {b₀
               source = fl .source (given .heard) (g₀ .steady .source);
               room = fl .room;
               slots = omega (arith, fl .slots, g₀ .steady .slots, e, few);
-              covered = covered-fits;
+              took-part = took-part-fits;
               nacks = omega (arith, pc .nacks, pr .nacks, g₀ .steady .nacks);
               piggybacks = omega (arith, pc .piggybacks, pr .piggybacks, g₀ .steady .piggybacks, ok .few);
             }

@@ -20,7 +20,6 @@ use Rattle.protocol.proofs.Kept.{kept-mono}
 use Rattle.pipeline.specs.Round.{Shared, shortestLog}
 use Rattle.pipeline.specs.View.{AllKept, Sharing, tableSize, statesOf, recordsOf, recordAt, sharedOf}
 use Rattle.rules.specs.Run.{Given, Running, Ended, begin, runRound, complete, endAfter, roundsFrom, runFor}
-use Rattle.rules.proofs.Coverage.{held-begin, held-round}
 use Rattle.rules.proofs.Ends.{from-limit, from-next, from-end, shortest-new}
 use Rattle.network.proofs.Sets.{two}
 use Rattle.rules.proofs.FirstRounds.{elem-beyond, newest}
@@ -58,11 +57,11 @@ same-table u v = u .sharing .kept .room ∙ sym (v .sharing .kept .room)
 
 -- the progress is what snapshots show, and no more
 abbrev pub showing : ℕ → Run → Run
-showing m x = record { flood = x .flood; carry = x .carry; covered = x .covered; progress = m }
+showing m x = record { flood = x .flood; carry = x .carry; «took_part» = x .«took_part»; progress = m }
 
 module _ {p : Plan} {x : Run} {w : Workspace} {m : ℕ} where
   shows-as : {b₀ : List ℕ} {s : Running} → Shows p x w b₀ s → Shows p (showing m x) w b₀ s
-  shows-as u = record { standing = u .standing; shared = u .shared; covered = u .covered }
+  shows-as u = record { standing = u .standing; shared = u .shared; took-part = u .took-part }
 
   steady-as : {heard : ℕ → Bool} {k : ℕ} → Steady heard p k x w → Steady heard p k (showing m x) w
   steady-as u =
@@ -72,7 +71,7 @@ module _ {p : Plan} {x : Run} {w : Workspace} {m : ℕ} where
         source = u .source;
         room = u .room;
         slots = u .slots;
-        covered = u .covered;
+        took-part = u .took-part;
         nacks = u .nacks;
         piggybacks = u .piggybacks;
       }
@@ -93,7 +92,7 @@ underway-new graph p most x w can new =
         shows = record {
           standing = new .flood .stands g (w .snapshots) refl;
           shared = (λ i. sharedOf (p .nodes) (x .carry) (can .begins .no-state i) (can .begins .no-history i)) ∙ new .shared g refl;
-          covered = new .covered;
+          took-part = new .took-part;
         };
         steady = record {
           sound = new .flood .sound (settingsOf p 0) refl (ok .repeats-low) (ok .repeats-high) (ok .interval);
@@ -103,12 +102,11 @@ underway-new graph p most x w can new =
               (source-begins (c .«loss_rate») (c .seed) (w .stream) (can .stream));
           room = can .room;
           slots = omega (arith, new .flood .first);
-          covered = omega (arith, new .covered);
+          took-part = omega (arith, new .took-part);
           nacks = omega (arith, new .nacks);
           piggybacks = omega (arith, new .piggybacks);
         };
         rounds = refl;
-        packets = held-begin g;
         progress = new .progress ∙ sym (shortest-new (p .nodes));
       };
       rest = ap (λ (m : ℕ). roundsFrom g m 0 (begin g)) all;
@@ -218,7 +216,6 @@ module _ {graph : List ℕ} {p : Plan} {most : ℕ} {b₀ : List ℕ} where
                 shows = shows-as shown;
                 steady = steady-as (pl .steady);
                 rounds = rounds;
-                packets = held-round (planned graph p) k (u .here) (u .going .packets);
                 progress = seen .shortest ∙ ap (λ (y : List State). shortestLog y (p .nodes)) (states-are shown);
               };
               rest =

@@ -14,7 +14,6 @@ use Rattle.phy.specs.View.{Tables, tables, Sound, Stands}
 use Rattle.pipeline.specs.Round.{shortestLog}
 use Rattle.pipeline.specs.View.{AllKept, statesOf, Sharing, sharedOf, tableSize, historySize}
 use Rattle.rules.specs.Accepted.{Accepted}
-use Rattle.rules.specs.Coverage.{HeldPackets}
 use Rattle.rules.specs.Entries.{givenAs}
 use Rattle.rules.specs.Answers.{seenRound}
 use Rattle.rules.specs.Run.{Given, Past, Running, begin, complete, pastIn, runRound, roundsFrom, runFor}
@@ -64,7 +63,7 @@ lentOf w = tables (w .queue) (w .stream) (w .snapshots)
 pub record Shows (p : Plan) (x : Run) (w : Workspace) (b₀ : List ℕ) (s : Running) : Type 0 where
   pub standing : Stands (p .nodes) (x .flood) b₀ (w .snapshots) (s .standing)
   pub shared : sharedOf (p .nodes) (x .carry) (w .states) (w .history) ≡ s .shared
-  pub covered : x .covered ≡ s .covered
+  pub took-part : x .«took_part» ≡ s .tookPart
 
 -- What holds of the code's own numbers after k rounds of a run with these receptions.
 pub record Steady (heard : ℕ → Bool) (p : Plan) (k : ℕ) (x : Run) (w : Workspace) : Type 0 where
@@ -73,17 +72,16 @@ pub record Steady (heard : ℕ → Bool) (p : Plan) (k : ℕ) (x : Run) (w : Wor
   pub source : Source (p .config .«loss_rate») heard (x .flood .attempts) (w .stream)
   pub room : p .config .«flood_repeats» ≤ length (w .queue)
   pub slots : x .flood .slot .0 ≤ maxRoundSlots * k
-  pub covered : x .covered ≤ maxNodes * k
+  pub took-part : x .«took_part» ≤ maxNodes * k
   pub nacks : x .carry .nacks ≤ k
   pub piggybacks : x .carry .piggybacks ≤ maxNodes * k
 
--- After k rounds the code stands at x and the run of the definitions at s; snapshots show the progress. The packets that nodes hold stand
--- in the definitions alone.
+-- After k rounds the code stands at x and the run of the definitions at s; snapshots show the progress. The packets that nodes hold, and
+-- the covered nodes, stand in the definitions alone.
 pub record Going (graph : List ℕ) (p : Plan) (k : ℕ) (x : Run) (w : Workspace) (b₀ : List ℕ) (s : Running) : Type 0 where
   pub shows : Shows p x w b₀ s
   pub steady : Steady (planned graph p .heard) p k x w
   pub rounds : length (s .rounds) ≡ k
-  pub packets : HeldPackets (p .nodes) k (s .standing .nodes)
   pub progress : x .progress ≡ shortestLog (s .shared .states) (p .nodes)
 
 -- ---- one round
@@ -172,7 +170,7 @@ pub record NewRun (n : ℕ) (x : Run) : Type 0 where
   pub flood : NewRadios n (x .flood)
   pub shared : (g : Given) → g .nodes ≡ n → sharedOf n (x .carry) (replicate (tableSize n) 0) (replicate historySize 0) ≡ begin g .shared
   pub sharing : Sharing n (x .carry) (replicate (tableSize n) 0) (replicate historySize 0)
-  pub covered : x .covered ≡ 0
+  pub took-part : x .«took_part» ≡ 0
   pub progress : x .progress ≡ 0
   pub nacks : x .carry .nacks ≡ 0
   pub piggybacks : x .carry .piggybacks ≡ 0

@@ -23,9 +23,10 @@ use random::draws::begin_draws;
 use rules::answer::SeenRound;
 ghost use mathlib.Core.Path.{_≡_};
 ghost use mathlib.Core.Bool.{cond, _&&_};
+ghost use lib.Count.{ones};
 ghost use lib.Dec.{eqb, ltb};
 ghost use Prim.Native.Nat.{_+_, _*_, _≤_};
-ghost use Rattle.config.specs.Limits.{maxNodes, maxTerms, maxRepeats, roundsPerLink, extraRounds};
+ghost use Rattle.config.specs.Limits.{setBits, maxNodes, maxTerms, maxRepeats, roundsPerLink, extraRounds};
 ghost use Rattle.rounds.specs.Going.{settingsOf, workspace, CanPlay, Plays, CanStart, CanGo, Goes, Stops, NewRadios, NewRun};
 
 // What a run is given beside the rows of its graph.
@@ -35,11 +36,12 @@ pub struct Plan {
     pub config: Config,
 }
 
-// Where a run stands between rounds. Snapshots show the progress, the length of the shortest log.
+// Where a run stands between rounds: its radios, what the nodes share, how many nodes took part over all rounds, and the
+// progress, the length of the shortest log, which snapshots show.
 pub struct Run {
     pub flood: Radios,
     pub carry: Carry,
-    pub covered: u64,
+    pub took_part: u64,
     pub progress: u64,
 }
 
@@ -99,7 +101,7 @@ fn new_run(n: usize) -> Run
     Run {
         flood,
         carry,
-        covered: 0,
+        took_part: 0,
         progress: 0,
     }
 }
@@ -118,7 +120,14 @@ fn settings_of(plan: Plan, progress: u64) -> Settings
     }
 }
 
-// Round k: prepare, flood, process. The covered nodes are those that took part.
+// How many nodes a set has.
+fn size(set: u64) -> u64
+    ensures { λ r. ⌜ (r ≡ ones set) × (r ≤ setBits) ⌝ }
+{
+    u64::count_ones(set) as u64
+}
+
+// Round k: prepare, flood, process.
 fn run_round(
     graph: &[u64; MAX_NODES],
     plan: Plan,
@@ -165,7 +174,7 @@ fn run_round(
     let run = Run {
         flood: after,
         carry,
-        covered: x.covered + u64::count_ones(part) as u64,
+        took_part: x.took_part + size(part),
         progress: x.progress,
     };
     let seen = SeenRound { packet, part };

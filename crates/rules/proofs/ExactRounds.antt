@@ -63,6 +63,7 @@ module _ (g : Given) (logs records snapshots : List ℕ) (a : Accepted g) (w : S
         listen = stopped .after .listen;
         flood = stopped .after .flood;
         sleep = stopped .after .sleep;
+        reached = (stopped .after .covered, stopped .after .took-part);
         proposals = ap length records-are ∙ length-tabulate (g .proposals) (exactRecord (firstSlot g) (g .nodes));
         recorded = records-are;
         record-at = record-is;

@@ -1,5 +1,5 @@
 -- Where a run that loses nothing stands after k rounds. Assumes nothing.
-use Prim.Native.Nat.{ℕ, zero, suc, _+_, _-_, _/_, _≤_, _<_, min}
+use Prim.Native.Nat.{ℕ, zero, suc, _+_, _-_, _*_, _/_, _≤_, _<_, min}
 use mathlib.Core.Bool.{true}
 use mathlib.Core.List.{List, [], _∷_, _++_}
 use mathlib.Core.Logic.{_⊎_, inl, inr, ⊎-elim}
@@ -19,7 +19,7 @@ use Rattle.config.specs.declared.RoundSlots.{RoundSlots}
 use Rattle.phy.specs.declared.packet.Piggyback.{Piggyback}
 use Rattle.phy.specs.Round.{Flooded, lengthLimit, round}
 use Rattle.phy.proofs.Tries.{Even}
-use Rattle.phy.proofs.Lossless.{Lossless, lossless-tries, limit-enough}
+use Rattle.phy.proofs.Lossless.{Lossless, all-took-part, lossless-tries, limit-enough}
 use Rattle.protocol.specs.Paxos.{empty}
 use Rattle.protocol.proofs.Frame.{state-is}
 use Rattle.phy.specs.Slot.{sumOf}
@@ -42,6 +42,8 @@ pub record After (g : Given) (k : ℕ) (r : Running) : Type 0 where
   pub listen : sumOf (λ (v : Node). v .«slots_listen») (r .standing .nodes) (g .nodes) ≡ sum k (λ (i : ℕ). sum (g .nodes) (λ (j : ℕ). distanceIn g i j))
   pub flood : sumOf (λ (v : Node). v .«slots_flood») (r .standing .nodes) (g .nodes) ≡ sum k (λ (i : ℕ). sum (g .nodes) (λ (j : ℕ). g .repeats))
   pub sleep : sumOf (λ (v : Node). v .«slots_sleep») (r .standing .nodes) (g .nodes) ≡ sum k (λ (i : ℕ). sum (g .nodes) (λ (j : ℕ). farthest g i - distanceIn g i j))
+  pub covered : r .covered ≡ g .nodes * k
+  pub took-part : r .tookPart ≡ g .nodes * k
 
 -- an element of a list with one more at its end
 pub elem-snoc : {A : Type 0} (l : List A) (x : A) (j : ℕ) (p : A) → getElem? (l ++ x ∷ []) j ≡ some p → (getElem? l j ≡ some p) ⊎ ((j ≡ length l) × (x ≡ p))
@@ -88,6 +90,8 @@ module _ (g : Given) where
         listen = sum-new (λ (v : Node). v .«slots_listen») (g .nodes) (g .nodes) refl (omega arith);
         flood = sum-new (λ (v : Node). v .«slots_flood») (g .nodes) (g .nodes) refl (omega arith);
         sleep = sum-new (λ (v : Node). v .«slots_sleep») (g .nodes) (g .nodes) refl (omega arith);
+        covered = omega arith;
+        took-part = omega arith;
       }
 
 module _ {g : Given} (a : Accepted g) (w : Suited g) where
@@ -125,6 +129,8 @@ module _ {g : Given} (a : Accepted g) (w : Suited g) where
           flood = sum-grown (λ (v : Node). v .«slots_flood») (r .standing .nodes) (flooded .after .nodes) (g .nodes) (λ (j : ℕ). g .repeats) (flood .flooded) ∙ ap (λ (x : ℕ). x + sum (g .nodes) (λ (j : ℕ). g .repeats)) (now .flood);
           sleep = sum-grown (λ (v : Node). v .«slots_sleep») (r .standing .nodes) (flooded .after .nodes) (g .nodes) (λ (j : ℕ). farthest g k - distanceIn g k j) (flood .slept)
               ∙ ap (λ (x : ℕ). x + sum (g .nodes) (λ (j : ℕ). farthest g k - distanceIn g k j)) (now .sleep);
+          covered = omega (arith, now .covered, flood .covered);
+          took-part = omega (arith, now .took-part, all-took-part flood);
         }
       where
         i : ℕ

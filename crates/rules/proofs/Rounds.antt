@@ -9,9 +9,7 @@ use borrow.Author.Tests.{leb-true}
 use Rattle.network.proofs.Sets.{count-le}
 use Rattle.config.specs.Limits.{maxNodes, maxRepeats, maxRoundSlots}
 use Rattle.config.specs.declared.RoundSlots.{RoundSlots}
-use Rattle.phy.specs.declared.packet.Packet.{Packet}
-use Rattle.phy.specs.Slot.{Setup, Standing}
-use Rattle.phy.specs.Round.{lengthLimit, round, coverage}
+use Rattle.phy.specs.Round.{Flooded, tookPart, lengthLimit}
 use Rattle.rules.specs.Questions.{slotsAllowed}
 use Rattle.rules.specs.Run.{Given, Running, runRound}
 
@@ -22,10 +20,9 @@ longest-few RoundSlots.Absent d repeats ok near few =
     let most : (d + 2) * repeats ≤ 33 * 64 = mul-le-mul {n₁ = d + 2} {m₁ = repeats} {n₂ = 33} {m₂ = 64} (omega arith) (omega arith) in
     omega (arith, most)
 
--- no more nodes are covered than there are
-pub covered-few : (g : Setup) (longest initiator : ℕ) (packet : Packet) (s : Standing) → round g longest initiator packet s .covered ≤ g .nodes
-unfolding round coverage
-covered-few g longest initiator packet s = count-le (g .nodes) _
+-- no more nodes take part than there are
+pub took-part-few : (n : ℕ) (r : Flooded) → tookPart n r ≤ n
+took-part-few n r = count-le n _
 
 -- a round more was run
 pub rounds-more : (g : Given) (k : ℕ) (r : Running) → length (runRound g k r .rounds) ≡ length (r .rounds) + 1

@@ -20,7 +20,8 @@ use Rattle.config.specs.Limits.{mostRounds}
 use Rattle.rules.specs.Run.{runFor, Given, Past, Running, begin, setupOf, runRound, run}
 use Rattle.rules.specs.Entries.{givenFor, summaryOf}
 use Rattle.rules.specs.RunBounds.{longest, Bounds, AllBounded}
-use Rattle.rules.proofs.Rounds.{longest-few, covered-few}
+use Rattle.rules.proofs.Rounds.{longest-few, took-part-few}
+use Rattle.rules.proofs.Coverage.{same-counts}
 use Rattle.rules.proofs.Ends.{Through, along-rounds, tallied-next}
 use Rattle.rules.proofs.Admitted.{admitted}
 use Rattle.rules.proofs.Tallies.{Low, Few, few-prepared, few-processed, low-packet}
@@ -30,9 +31,9 @@ use Rattle.rules.proofs.Tallies.{Low, Few, few-prepared, few-processed,
 record Within (g : Given) (k : ℕ) (r : Running) : Type 0 where
   rounds : length (r .rounds) ≡ k
   slots : r .standing .slot ≤ k * longest g
-  totals : (j : ℕ) → j < g .nodes → total (at (r .standing .nodes) j) ≡ r .standing .slot
+  counted : (j : ℕ) → j < g .nodes → total (at (r .standing .nodes) j) ≡ r .standing .slot
   tallied : Tallied (g .nodes) (g .heard) (begin g .standing) (r .standing)
-  covered : r .covered ≤ g .nodes * k
+  took-part : r .tookPart ≤ g .nodes * k
   few : Few k (g .nodes * k) (r .shared)
   due : Due (g .interval) (r .standing .slot) (r .standing .shots)
 
@@ -42,9 +43,9 @@ module _ (g : Given) (pos : 1 ≤ g .interval) where
       record {
         rounds = refl;
         slots = zero-le;
-        totals = λ j h. ap total (getD-replicate (g .nodes) j new new h);
+        counted = λ j h. ap total (getD-replicate (g .nodes) j new new h);
         tallied = tallied-none (g .nodes) (g .heard) (begin g .standing);
-        covered = zero-le;
+        took-part = zero-le;
         few = record { nacks = zero-le; piggybacks = zero-le; filed = zero-le; low = all-new Low tt (g .nodes) };
         due = due-none (g .interval) (begin g .standing .shots) pos refl refl;
       }
@@ -55,9 +56,9 @@ module _ (g : Given) (pos : 1 ≤ g .interval) where
       record {
         rounds = length-append (r .rounds) (this ∷ []) ∙ omega (arith, now .rounds);
         slots = omega (arith, now .slots, round-most setup (longest g) i (ready .packet) (r .standing));
-        totals = λ j h. omega (arith, now .totals j h, counted-round setup (longest g) i (ready .packet) (r .standing) j h);
+        counted = λ j h. omega (arith, now .counted j h, counted-round setup (longest g) i (ready .packet) (r .standing) j h);
         tallied = tallied-then (now .tallied) (tallied-next g k r);
-        covered = omega (arith, now .covered, covered-few setup (longest g) i (ready .packet) (r .standing));
+        took-part = omega (arith, now .took-part, took-part-few (g .nodes) flooded);
         few = record { nacks = omega (arith, few .nacks); piggybacks = omega (arith, few .piggybacks); filed = few .filed; low = few .low };
         due = due-round setup (longest g) i (ready .packet) (r .standing) pos (now .due);
       }
@@ -105,11 +106,12 @@ bounds-of g a =
     let each-slot : s .listen + s .flood + s .sleep ≡ g .nodes * s .slots
     = omega (
       arith,
-      all-slots (run g .running .standing .nodes) (g .nodes) (s .slots) (now .totals),
+      all-slots (run g .running .standing .nodes) (g .nodes) (s .slots) (now .counted),
     ) in
     let successes : s .successes ≤ s .attempts = successes-most (now .tallied) zero-le in
     let attempts : s .attempts ≤ g .nodes * g .nodes * s .slots = omega (arith, now .tallied .few) in
-    let covered : s .covered ≤ g .nodes * s .rounds = subst (λ (k : ℕ). s .covered ≤ g .nodes * k) (sym (now .rounds)) (now .covered) in
+    let took-part : s .«took_part» ≤ g .nodes * s .rounds = subst (λ (k : ℕ). s .«took_part» ≤ g .nodes * k) (sym (now .rounds)) (now .took-part) in
+    let covered : s .covered ≡ s .«took_part» = same-counts g (mostRounds (g .proposals)) in
     let nacks : s .nacks ≤ s .rounds = omega (arith, now .few .nacks, now .rounds) in
     let piggybacks : s .piggybacks ≤ g .nodes * s .rounds = subst (λ (k : ℕ). s .piggybacks ≤ g .nodes * k) (sym (now .rounds)) (now .few .piggybacks) in
     let filed : s .records ≤ 64 = omega (arith, now .few .filed, count-le 64 (λ (t : ℕ). recorded t (run g .running .shared .records))) in
@@ -130,6 +132,7 @@ bounds-of g a =
       attempts = attempts;
       flood-rounds = refl;
       flood-nodes = refl;
+      took-part = took-part;
       covered = covered;
       nacks = nacks;
       piggybacks = piggybacks;
@@ -144,6 +147,7 @@ bounds-of g a =
         each-slot,
         successes,
         attempts,
+        took-part,
         covered,
         nacks,
         piggybacks,

@@ -29,7 +29,7 @@ pub record Outcome : Type 0 where
   pub records : List ℕ
   pub snapshots : List ℕ
 
--- The summary: nodes, rounds, slots, end; listen, flood, sleep; attempts, successes; flood rounds, flood nodes, covered; NACKs,
+-- The summary: nodes, rounds, slots, end; listen, flood, sleep; attempts, successes; flood rounds, flood nodes, covered, took part; NACKs,
 -- piggybacks; records, and all snapshots that were taken.
 abbrev pub summaryOf : Given → Ended → Summary
 summaryOf g e =
@@ -48,6 +48,7 @@ summaryOf g e =
       «flood_rounds» = rounds;
       «flood_nodes» = g .nodes * rounds;
       covered = r .covered;
+      «took_part» = r .tookPart;
       nacks = r .shared .nacks;
       piggybacks = r .shared .piggybacks;
       records = length (r .shared .records);

@@ -90,6 +90,8 @@ pub record ExactRounds (g : Given) (e : Ended) (s : Summary) (logs records : Lis
   pub listen : s .listen ≡ sum (roundsOf g) (λ (k : ℕ). sum (g .nodes) (λ (j : ℕ). distanceIn g k j))
   pub flood : s .flood ≡ sum (roundsOf g) (λ (k : ℕ). sum (g .nodes) (λ (j : ℕ). g .repeats))
   pub sleep : s .sleep ≡ sum (roundsOf g) (λ (k : ℕ). sum (g .nodes) (λ (j : ℕ). farthest g k - distanceIn g k j))
+  -- every node takes part in each round and is covered by it
+  pub reached : (s .covered ≡ g .nodes * roundsOf g) × (s .«took_part» ≡ g .nodes * roundsOf g)
   -- exactly P records, in order of id
   pub proposals : s .records ≡ g .proposals
   pub recorded :

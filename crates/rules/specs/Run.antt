@@ -11,7 +11,7 @@ use Rattle.phy.specs.declared.packet.Piggyback.{Piggyback}
 use Rattle.config.specs.declared.RoundSlots.{RoundSlots}
 use Rattle.phy.specs.Node.{new}
 use Rattle.phy.specs.Slot.{Setup, Standing}
-use Rattle.phy.specs.Round.{Flooded, lengthLimit, round}
+use Rattle.phy.specs.Round.{Flooded, tookPart, lengthLimit, round}
 use Rattle.protocol.specs.Paxos.{State, empty, logged}
 use Rattle.pipeline.specs.Round.{Shared, Prepared, stateOf, initiatorOf, prepareRound, processRound, shortestLog}
 
@@ -39,11 +39,13 @@ pub record Past : Type 0 where
 abbrev pub lengthOf : Past → ℕ
 lengthOf p = p .flooded .after .slot - p .before .slot
 
--- Where a run stands: the flood's part, the nodes' part, how many nodes were covered over all rounds, and the rounds that were run.
+-- Where a run stands: the flood's part, the nodes' part, how many nodes were covered and how many took part, both over all rounds, and the
+-- rounds that were run.
 pub record Running : Type 0 where
   pub standing : Standing
   pub shared : Shared
   pub covered : ℕ
+  pub tookPart : ℕ
   pub rounds : List Past
 
 -- before the first round
@@ -53,6 +55,7 @@ begin g =
       standing = record { nodes = replicate (g .nodes) new; attempts = 0; successes = 0; slot = 0; shots = record { next = 0; taken = [] } };
       shared = record { states = replicate (g .nodes) empty; counter = 0; starts = []; records = []; piggyback = Piggyback.None; nacks = 0; piggybacks = 0 };
       covered = 0;
+      tookPart = 0;
       rounds = [];
     }
 
@@ -84,6 +87,7 @@ runRound g k r =
       standing = flooded .after;
       shared = processRound (g .nodes) (prepared .packet) (flooded .after .slot) (flooded .part) (prepared .shared);
       covered = r .covered + flooded .covered;
+      tookPart = r .tookPart + tookPart (g .nodes) flooded;
       rounds = r .rounds ++ (pastIn g k r ∷ []);
     }
 

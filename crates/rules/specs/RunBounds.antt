@@ -21,7 +21,7 @@ together s =
     s .nodes + s .rounds + s .slots
     + s .listen + s .flood + s .sleep
     + s .attempts + s .successes
-    + s .«flood_rounds» + s .«flood_nodes» + s .covered
+    + s .«flood_rounds» + s .«flood_nodes» + s .covered + s .«took_part»
     + s .nacks + s .piggybacks + s .records + s .snapshots
 
 -- The summary s of the run of g.
@@ -37,10 +37,11 @@ pub record Bounds (g : Given) (s : Summary) : Type 0 where
   -- in every slot each node makes at most one attempt at each node
   pub successes : s .successes ≤ s .attempts
   pub attempts : s .attempts ≤ g .nodes * g .nodes * s .slots
-  -- every round is a flood to all nodes, and covers at most all
+  -- every round is a flood to all nodes; at most all take part, and as many are covered
   pub flood-rounds : s .«flood_rounds» ≡ s .rounds
   pub flood-nodes : s .«flood_nodes» ≡ g .nodes * s .rounds
-  pub covered : s .covered ≤ g .nodes * s .rounds
+  pub took-part : s .«took_part» ≤ g .nodes * s .rounds
+  pub covered : s .covered ≡ s .«took_part»
   -- at most one NACK a round, and one piggyback a round and node
   pub nacks : s .nacks ≤ s .rounds
   pub piggybacks : s .piggybacks ≤ g .nodes * s .rounds

@@ -11,6 +11,7 @@ use Rattle.pipeline.specs.View.{statesOf, recordsOf, sharedOf}
 use Rattle.rules.specs.Run.{run}
 use Rattle.rules.specs.Answers.{ran}
 use Rattle.rules.specs.Entries.{summaryOf, logsWith, recordNumbers, ranWith}
+use Rattle.rules.proofs.Coverage.{same-counts}
 use Rattle.rounds.specs.declared.run.Plan.{Plan}
 use Rattle.rounds.specs.declared.run.Stopped.{Stopped}
 use Rattle.rounds.specs.Going.{planned, Stops}
@@ -36,7 +37,8 @@ module _ {graph : List ℕ} {p : Plan} {r : Stopped} {b₀ states history snapsh
         successes = st .successes i;
         «flood_rounds» = rounds i;
         «flood_nodes» = p .nodes * rounds i;
-        covered = e .goes .shows .covered i;
+        covered = (e .goes .shows .took-part ∙ sym (same-counts (planned graph p) (mostRounds (p .config .«num_proposals»)))) i;
+        «took_part» = e .goes .shows .took-part i;
         nacks = e .goes .shows .shared i .nacks;
         piggybacks = e .goes .shows .shared i .piggybacks;
         records = count-is (e .goes .shows) i;

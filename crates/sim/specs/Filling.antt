@@ -15,7 +15,7 @@ pub record CanFill (graph : List ℕ) (p : Plan) (logs records : List ℕ) : Typ
   pub logs-long : logSize ≤ length logs
   pub records-long : recordsSize ≤ length records
 
--- the summary of a run that has stopped, from what the code counted
+-- The summary of a run that has stopped, from what the code counted. As many nodes are covered as took part (`SameCounts`).
 abbrev pub summaryFrom : ℕ → Stopped → Summary
 summaryFrom n e =
     record {
@@ -30,7 +30,8 @@ summaryFrom n e =
       successes = e .run .flood .successes;
       «flood_rounds» = e .rounds;
       «flood_nodes» = n * e .rounds;
-      covered = e .run .covered;
+      covered = e .run .«took_part»;
+      «took_part» = e .run .«took_part»;
       nacks = e .run .carry .nacks;
       piggybacks = e .run .carry .piggybacks;
       records = e .run .carry .recorded .count;

@@ -23,7 +23,7 @@ ghost use Rattle.rules.specs.Entries.{ranWith};
 ghost use Rattle.rounds.specs.Going.{planned};
 ghost use Rattle.sim.specs.Filling.{CanFill, summaryFrom};
 
-// The summary of a run that has stopped.
+// The summary of a run that has stopped. The covered nodes are those that took part (`SameCounts`).
 fn summary_of(end: Stopped, n: usize) -> Summary
     requires { ⌜ (n ≤ maxNodes) × (end .rounds ≤ mostRounds maxTerms) ⌝ }
     ensures { λ r. ⌜ r ≡ summaryFrom n end ⌝ }
@@ -43,7 +43,8 @@ fn summary_of(end: Stopped, n: usize) -> Summary
         successes: flood.successes,
         flood_rounds: end.rounds,
         flood_nodes: (n as u64) * end.rounds,
-        covered: x.covered,
+        covered: x.took_part,
+        took_part: x.took_part,
         nacks: carry.nacks,
         piggybacks: carry.piggybacks,
         records: carry.recorded.count,

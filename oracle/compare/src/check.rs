@@ -122,6 +122,7 @@ fn numbers(run: &Summary) -> [u64; SUMMARY_LENGTH] {
         run.flood_rounds,
         run.flood_nodes_total,
         run.flood_nodes_covered,
+        run.took_part(),
         run.nacks_sent,
         run.piggybacks_sent,
         run.records.len() as u64,

@@ -60,6 +60,7 @@ impl Exact {
     pub fn difference(&self, run: &Summary, found: &Buffers) -> Option<String> {
         let (summary, logs) = (&found.summary.places, &found.logs.places);
         let rounds = self.proposals + self.half;
+        let everyone = (run.nodes * rounds) as u64;
         let mut numbers = vec![
             ("ended", 1, summary[3]),
             ("rounds", rounds as u64, summary[1]),
@@ -67,7 +68,9 @@ impl Exact {
             ("listen", self.listen, summary[4]),
             ("flood", self.flood, summary[5]),
             ("sleep", self.sleep, summary[6]),
-            ("records", self.proposals as u64, summary[14]),
+            ("covered", everyone, summary[11]),
+            ("took part", everyone, summary[12]),
+            ("records", self.proposals as u64, summary[15]),
             ("rounds of ctsim", rounds as u64, run.rounds.len() as u64),
         ];
         let starts = self.starts.iter().zip(&run.rounds);

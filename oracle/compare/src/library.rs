@@ -101,7 +101,7 @@ extern "C" {
     ) -> u64;
 }
 
-pub const SUMMARY_LENGTH: usize = 16;
+pub const SUMMARY_LENGTH: usize = 17;
 pub const LOGS_LENGTH: usize = 2080;
 pub const RECORDS_LENGTH: usize = 192;
 /// Numbers of one snapshot.

@@ -47,6 +47,14 @@ pub struct Summary {
     pub last_accepted: Vec<Option<u64>>,
 }
 
+impl Summary {
+    /// The nodes that took part, added up over the rounds. ctsim has no count of them.
+    pub fn took_part(&self) -> u64 {
+        let sizes = self.rounds.iter().map(|round| round.part.count_ones());
+        sizes.map(u64::from).sum()
+    }
+}
+
 #[derive(Debug, Clone, PartialEq, Eq)]
 pub struct Record {
     pub id: u64,

@@ -42,7 +42,7 @@ impl fmt::Display for Summary {
             " floods {} {}",
             self.flood_rounds, self.flood_nodes_total
         )?;
-        write!(f, " {}", self.flood_nodes_covered)?;
+        write!(f, " {} {}", self.flood_nodes_covered, self.took_part())?;
         writeln!(f, " recovery {} {}", self.nacks_sent, self.piggybacks_sent)?;
         for r in &self.records {
             writeln!(f, "proposal {} {} {} {}", r.id, r.start, r.end, r.latency)?;

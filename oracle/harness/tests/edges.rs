@@ -8,7 +8,7 @@ const PRINTED_LINE: &str = "2 3 0 1 - 0000000000000000 7 1 2 1000";
 const PRINTED_RUN: &str = "\
 nodes 3 rounds 2 slots 5 ended 1
 listen 5 flood 6 sleep 4
-links 4 4 floods 2 6 6 recovery 0 0
+links 4 4 floods 2 6 6 6 recovery 0 0
 proposal 0 0 3 3
 snapshot 0 0 2 1 0
 snapshot 2 0 0 1 2

@@ -81,10 +81,8 @@ fn rounds_agree_with_the_summary() {
         };
         let packets = run.rounds.iter().map(|round| round.packet);
         let nacks: u64 = packets.map(|packet| packet[place::NACK]).sum();
-        let took_part = run.rounds.iter().map(|round| round.part.count_ones());
-        let covered: u64 = took_part.map(u64::from).sum();
         assert_eq!(nacks, run.nacks_sent, "{input}");
-        assert_eq!(covered, run.flood_nodes_covered, "{input}");
+        assert_eq!(run.took_part(), run.flood_nodes_covered, "{input}");
         packets_follow_the_rules(&input, &run);
     }
 }

@@ -1,7 +1,7 @@
 use native.Mathlib.Omega.{arith}
 use borrow.Author.Needs.{needs}
 use Rattle.text.specs.Text.{ascii}
-use Rattle.listing.specs.Listing.{labelled, snapshotLine}
+use Rattle.listing.specs.Listing.{labelled, lineWith, snapshotLine}
 use Rattle.text.proofs.Overlays.{_then_}
 use Rattle.listing.proofs.write.put_snapshot_line.Statement.{statement}
 use Rattle.listing.proofs.write.put_snapshot_line.Tie as tie
@@ -10,7 +10,7 @@ put-requires : tie.Need-put-requires
 put-requires c κs = omega (arith, c .before .before .before .before .before .before .before .before .before .before .before .before)
 
 returns : tie.Need-returns
-unfolding snapshotLine labelled ascii
+unfolding snapshotLine lineWith labelled ascii
 returns c =
     let sleeping = c .before .before .before .before .before .before in
     let flooding = sleeping .before .before .before .before in
@@ -20,8 +20,8 @@ returns c =
     let fifth = slot .before .before .before in
     let third = fifth .before .before in
     let second = third .before in
-    let all = slot .put-labelled .ensures then progress .put-spaced .ensures then listening .put-spaced2 .ensures
-    then flooding .put-spaced3 .ensures then sleeping .put-spaced4 .ensures then c .before .before .put .ensures in
+    let all = slot .put-labelled .ensures then (progress .put-spaced .ensures then (listening .put-spaced2 .ensures
+    then (flooding .put-spaced3 .ensures then (sleeping .put-spaced4 .ensures then c .before .before .put .ensures)))) in
     rw (
       second .before .number-at .ensures,
       second .number-at2 .ensures,

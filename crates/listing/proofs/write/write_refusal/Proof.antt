@@ -1,12 +1,12 @@
 use borrow.Author.Needs.{needs}
 use Rattle.text.specs.Text.{ascii}
-use Rattle.listing.specs.Listing.{labelled, refusalText}
+use Rattle.listing.specs.Listing.{labelled, lineWith, refusalText}
 use Rattle.text.proofs.Overlays.{_then_, whole}
 use Rattle.listing.proofs.write.write_refusal.Statement.{statement}
 use Rattle.listing.proofs.write.write_refusal.Tie as tie
 
 returns : tie.Need-returns
-unfolding refusalText labelled ascii
+unfolding refusalText lineWith labelled ascii
 returns c =
     let entry = c .before .before .before .before .before .before in
     whole (entry .put-labelled .ensures then c .before .before .put .ensures)

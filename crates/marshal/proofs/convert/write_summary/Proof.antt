@@ -52,6 +52,9 @@ slice-write-out-15 c = simp (length-set) (omega (arith, c .pre))
 slice-write-out-16 : tie.Need-slice-write-out-16
 slice-write-out-16 c = simp (length-set) (omega (arith, c .pre))
 
+slice-write-out-17 : tie.Need-slice-write-out-17
+slice-write-out-17 c = simp (length-set) (omega (arith, c .pre))
+
 same-length : tie.Need-same-length
 same-length c = search needs
 
@@ -78,5 +81,6 @@ write-summary-spec =
     slice-write-out-14
     slice-write-out-15
     slice-write-out-16
+    slice-write-out-17
     same-length
     returns)

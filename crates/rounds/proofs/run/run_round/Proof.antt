@@ -1,10 +1,7 @@
-use Prim.Native.Nat.{_+_, _*_, _≤_}
 use mathlib.Core.Path.{sym, _∙_}
 use borrow.Author.Needs.{needs}
 use native.Mathlib.Omega.{arith}
-use lib.Count.{ones}
-use Rattle.config.specs.Limits.{maxNodes}
-use Rattle.rounds.proofs.Rounds.{may-prepare, can-flood, may-process, covered-fits, round-plays}
+use Rattle.rounds.proofs.Rounds.{may-prepare, can-flood, may-process, round-plays}
 use Rattle.rounds.proofs.run.run_round.Statement.{statement}
 use Rattle.rounds.proofs.run.run_round.Tie as tie
 
@@ -21,11 +18,11 @@ limited c = c .before .before .before .before
 abbrev flooded : tie.After-process-round → tie.After-flood-identical-round
 flooded c = c .before .before .before .before .before .before .before .before
 
-abbrev processed : tie.After-struct-known → tie.After-process-round
-processed c = c .before .before .before
+abbrev counted : tie.After-struct-known → tie.After-size
+counted c = c .before
 
-rem-t31 : tie.Need-rem-t31
-rem-t31 c = search needs
+abbrev processed : tie.After-size → tie.After-process-round
+processed c = c .before .before .before
 
 prepare-round-requires : tie.Need-prepare-round-requires
 prepare-round-requires c κs = let pre = c .before .before .before .before .before .before .before .before .pre in may-prepare (pre .accepted) (pre .early) (pre .going)
@@ -47,23 +44,9 @@ process-round-requires c κs =
     let pre = start at .pre in
     may-process (pre .accepted) (pre .early) (pre .going) (at .prepare-round .ensures)
 
--- one count more has room
-room : (done : tie.After-process-round) → let s = start (prepared (flooded done)) in
-    s .args .x .covered + ones (flooded done .flood-identical-round .result .part) ≤ maxNodes * (s .args .k + 1)
-room done =
-    let at = flooded done in
-    let pre = start (prepared at) .pre in
-    covered-fits (pre .accepted) (pre .early) (pre .going) (prepared at .prepare-round .ensures) (limited at .settings-of .ensures) (limited at .before .length-limit .ensures) (at .flood-identical-round .ensures) (done .process-round .ensures)
-
-cast-t31 : tie.Need-cast-t31
-cast-t31 c = let done = c .before .before in omega (arith, room done, start (prepared (flooded done)) .pre .early)
-
-add-t30 : tie.Need-add-t30
-add-t30 c = let done = processed c in omega (arith, room done, start (prepared (flooded done)) .pre .early)
-
 same-length : tie.Need-same-length
 same-length c =
-    let done = processed c in
+    let done = processed (counted c) in
     done .process-round .ensures .sharing .kept .room ∙ sym (start (prepared (flooded done)) .pre .going .steady .sharing .kept .room)
 
 same-length-2 : tie.Need-same-length-2
@@ -71,23 +54,23 @@ same-length-2 c = search needs
 
 returns : tie.Need-returns
 returns c =
-    let done = processed c in
+    let done = processed (counted c) in
     let at = flooded done in
     let pre = start (prepared at) .pre in
-    round-plays (pre .accepted) (pre .early) (pre .going) (prepared at .prepare-round .ensures) (limited at .settings-of .ensures) (limited at .before .length-limit .ensures) (at .flood-identical-round .ensures) (done .process-round .ensures)
+    round-plays (pre .accepted) (pre .early) (pre .going) (prepared at .prepare-round .ensures) (limited at .settings-of .ensures) (limited at .before .length-limit .ensures) (at .flood-identical-round .ensures) (done .process-round .ensures) (counted c .size .ensures .0)
 
 pub run-round-spec : {M : Type 1} → statement M
 run-round-spec =
     tie.close
     (tie.spec
-    rem-t31
+    (λ c. search needs)
     prepare-round-requires
     length-limit-requires
     settings-of-requires
     flood-identical-round-requires
     process-round-requires
-    cast-t31
-    add-t30
+    (λ c κs. search needs)
+    (λ c. let pre = start (prepared (flooded (processed (counted c)))) .pre in omega (arith, counted c .size .ensures .1, pre .going .steady .took-part, pre .early))
     same-length
     same-length-2
     returns)
