@@ -199,8 +199,12 @@ pub record Lossless (g : Setup) (a : ℕ) (packet : Packet) (s : Standing) (r : 
   -- attempts and successes grow by the same number
   pub tries : Even s (r .after)
 
-pub all-took-part : {g : Setup} {a : ℕ} {packet : Packet} {s : Standing} {r : Flooded} → Lossless g a packet s r → tookPart (g .nodes) r ≡ g .nodes
-all-took-part {g} {r = r} l = count-all (g .nodes) (has (r .part)) (λ j h. ap (λ (x : ℕ). has x j) (l .part) ∙ has-setOf (g .nodes) (λ _. true) j h)
+module _ {g : Setup} {a : ℕ} {packet : Packet} {s : Standing} {r : Flooded} (l : Lossless g a packet s r) where
+  pub each-took-part : (j : ℕ) → j < g .nodes → has (r .part) j ≡ true
+  each-took-part j h = ap (λ (x : ℕ). has x j) (l .part) ∙ has-setOf (g .nodes) (λ _. true) j h
+
+  pub all-took-part : tookPart (g .nodes) r ≡ g .nodes
+  all-took-part = count-all (g .nodes) (has (r .part)) each-took-part
 
 -- The lossless round. Premises: the rows pass the row check; paths join all nodes; the initiator is one of the nodes; a node floods in
 -- at least one slot; the limit leaves room for e + repeats slots; and every attempt of the round is heard.

@@ -8,18 +8,22 @@ use Rattle.phy.specs.Node.{new, holding, isSleeping}
 use Rattle.phy.specs.Slot.{Setup, Standing, at}
 use Rattle.phy.specs.Round.{Flooded, tookPart, round}
 
--- In every round no more nodes took part than are covered: on any graph, from wherever it begins, whatever is lost.
+-- no more of n nodes took part in a round than are covered
+abbrev pub AtMostCovered : ℕ → Flooded → Type 0
+AtMostCovered n r = tookPart n r ≤ r .covered
+
+-- It is so in every round: on any graph, from wherever it begins, whatever is lost.
 abbrev pub TookPartCovered : Type 0
 TookPartCovered =
     (g : Setup) (longest initiator : ℕ) (packet : Packet) (s : Standing) →
-    tookPart (g .nodes) (round g longest initiator packet s) ≤ round g longest initiator packet s .covered
+    AtMostCovered (g .nodes) (round g longest initiator packet s)
 
 -- so in a round whose initiator reaches sleep
 abbrev pub AsleepTookPartCovered : Type 0
 AsleepTookPartCovered =
     (g : Setup) (longest initiator : ℕ) (packet : Packet) (s : Standing) →
     isSleeping (at (round g longest initiator packet s .after .nodes) initiator) ≡ true →
-    tookPart (g .nodes) (round g longest initiator packet s) ≤ round g longest initiator packet s .covered
+    AtMostCovered (g .nodes) (round g longest initiator packet s)
 
 -- ---- a round by itself in which they differ
 

@@ -1,6 +1,5 @@
 -- Where a run that loses nothing stands after k rounds. Assumes nothing.
 use Prim.Native.Nat.{ℕ, zero, suc, _+_, _-_, _*_, _/_, _≤_, _<_, min}
-use mathlib.Core.Bool.{true}
 use mathlib.Core.List.{List, [], _∷_, _++_}
 use mathlib.Core.Logic.{_⊎_, inl, inr, ⊎-elim}
 use mathlib.Core.Option.{some}
@@ -8,10 +7,8 @@ use mathlib.Core.Path.{_≡_, refl, sym, ap, ap₂, _∙_, subst}
 use native.Mathlib.Nat.{mod-lt, mul-le-mul-right}
 use native.Mathlib.Omega.{arith}
 use lib.ListN.{length, getElem?, replicate, length-append, length-replicate, getD-replicate}
-use Rattle.network.specs.Graph.{has}
 use Rattle.network.specs.Distance.{diameter}
 use Rattle.random.specs.Table.{tabulate}
-use Rattle.network.proofs.Sets.{has-setOf}
 use Rattle.random.proofs.Tables.{is-tabulate}
 use Rattle.network.proofs.Distances.{eccentricity-diameter}
 use Rattle.phy.specs.declared.node.Node.{Node}
@@ -19,7 +16,7 @@ use Rattle.config.specs.declared.RoundSlots.{RoundSlots}
 use Rattle.phy.specs.declared.packet.Piggyback.{Piggyback}
 use Rattle.phy.specs.Round.{Flooded, lengthLimit, round}
 use Rattle.phy.proofs.Tries.{Even}
-use Rattle.phy.proofs.Lossless.{Lossless, all-took-part, lossless-tries, limit-enough}
+use Rattle.phy.proofs.Lossless.{Lossless, each-took-part, all-took-part, lossless-tries, limit-enough}
 use Rattle.protocol.specs.Paxos.{empty}
 use Rattle.protocol.proofs.Frame.{state-is}
 use Rattle.phy.specs.Slot.{sumOf}
@@ -156,7 +153,7 @@ module _ {g : Given} (a : Accepted g) (w : Suited g) where
         shared : processRound (g .nodes) (ready .packet) (flooded .after .slot) (flooded .part) (ready .shared) ≡ sharedAt (firstSlot g) (g .nodes) (g .proposals) (suc k)
         shared =
             ap (λ (p : Prepared). processRound (g .nodes) (p .packet) (flooded .after .slot) (flooded .part) (p .shared)) ready-is
-            ∙ processed (firstSlot g) (fits early) (flooded .after .slot) (flooded .part) (λ j h. ap (λ (x : ℕ). has x j) (flood .part) ∙ has-setOf (g .nodes) (λ _. true) j h)
+            ∙ processed (firstSlot g) (fits early) (flooded .after .slot) (flooded .part) (each-took-part flood)
 
         exact : ExactRound g k this
         exact =
