@@ -6,24 +6,18 @@
  * repeats, round slots or -, loss as 16 hexadecimal digits, seed, proposals, interval and limit.
  * mA times ms is microcoulomb. It prints a line for each state and their sum, over all nodes.
  */
-#include <ctype.h>
-#include <errno.h>
 #include <math.h>
 #include <stdio.h>
 #include <stdlib.h>
 #include <string.h>
 
 #include "ctsim.h"
+#include "words.h"
 
-static const char usage[] =
+const char program[] = "charge";
+const char usage[] =
     "usage: charge LISTEN-mA FLOOD-mA SLEEP-mA SLOT-ms TOPOLOGY FIRST SECOND REPEATS ROUND-SLOTS|- "
     "LOSS SEED PROPOSALS INTERVAL LIMIT\n";
-
-static void bad(const char *word)
-{
-    fprintf(stderr, "charge: not understood: %s\n%s", word, usage);
-    exit(2);
-}
 
 /* A current or a length: a number that is at least 0. */
 static double measure(const char *word)
@@ -33,34 +27,6 @@ static double measure(const char *word)
 
     if (end == word || *end != '\0' || !isfinite(x) || x < 0)
         bad(word);
-    return x;
-}
-
-/* A number below 2^64, of digits in this base alone. */
-static uint64_t number(const char *word, int base)
-{
-    char *end;
-    unsigned long long n;
-
-    if (!isxdigit((unsigned char)word[0]))
-        bad(word);
-    errno = 0;
-    n = strtoull(word, &end, base);
-    if (*end != '\0' || errno != 0)
-        bad(word);
-    return n;
-}
-
-/* The double with these 16 hexadecimal digits. */
-static double loss_rate(const char *word)
-{
-    uint64_t bits;
-    double x;
-
-    if (strlen(word) != 16 || strspn(word, "0123456789abcdef") != 16)
-        bad(word);
-    bits = number(word, 16);
-    memcpy(&x, &bits, sizeof x);
     return x;
 }
 

@@ -1,11 +1,11 @@
 /*
  * ctsim: radios that flood one packet by constructive interference and agree on a log of proposals
- * by a pipelined Paxos. Twelve entries: draws, rows, diameter, three ratios, two runs, two previews of
- * one round, and a writer and a reader of a packet's text.
+ * by a pipelined Paxos. Fourteen entries: draws, rows, diameter, three ratios, two runs, two previews
+ * of one round, a writer and a reader of a packet's text, and two sweeps of many seeds.
  *
  * Build the library with `rt staticlib capi` and link target/staticlib/libcapi.a. It is for x86-64
- * Linux. It keeps nothing between calls, so that threads may call it at the same time. A run or a
- * preview takes about 60,000 bytes of the caller's stack.
+ * Linux. It keeps nothing between calls, so that threads may call it at the same time. A run, a
+ * preview or a sweep takes about 60,000 bytes of the caller's stack.
  *
  * Results. Every entry returns 0 if it is done, else a number of `enum ctsim_result`. Where it
  * returns another number than 0, it has written nothing.
@@ -36,7 +36,7 @@
 extern "C" {
 #endif
 
-/* What an entry returns. 1 to 11, 13 and 14 are the questions, asked in this order; the first "no" is
+/* What an entry returns. 1 to 11 and 13 to 15 are the questions, asked in this order; the first "no" is
  * told. 12 is of the program alone. 100 and above are of these entries alone; 100 is asked before the
  * questions. */
 enum ctsim_result {
@@ -54,6 +54,7 @@ enum ctsim_result {
     CTSIM_REFUSED_RATIO = 11,      /* a count of the ratio is above 2^53 */
     CTSIM_REFUSED_ROUND = 13,      /* the run ends before that round: it has at most `round` rounds */
     CTSIM_REFUSED_TEXT = 14,       /* no packet's text, no packet that has one, or no room for it */
+    CTSIM_REFUSED_SWEEP = 15,      /* more than 65,536 seeds, or not seven places for each */
     CTSIM_SHORT = 100,             /* a slice for a summary, a packet or a single result is too short */
     CTSIM_NO_RATIO = 101           /* no refusal: there is no ratio, as the second count is 0 */
 };
@@ -74,7 +75,9 @@ enum ctsim_length {
     CTSIM_LOGS_LENGTH = 2080,
     CTSIM_RECORDS_LENGTH = 192,
     CTSIM_PACKET_LENGTH = 13,
-    CTSIM_TEXT_LENGTH = 366 /* no text is longer: each fits into that many bytes */
+    CTSIM_TEXT_LENGTH = 366, /* no text is longer: each fits into that many bytes */
+    CTSIM_SWEPT_LENGTH = 7,  /* for each seed of a sweep */
+    CTSIM_MAX_SEEDS = 65536
 };
 
 /* The places of a summary. The first fifteen are the numbers of the first three lines that ./ctsim
@@ -100,6 +103,17 @@ enum ctsim_summary {
     CTSIM_PIGGYBACKS = 14,  /* nodes that took part and held that term, over all rounds */
     CTSIM_RECORDS = 15,     /* records: terms that some node has committed */
     CTSIM_SNAPSHOTS = 16    /* snapshots that were taken, whether they fitted or not */
+};
+
+/* The places of a line of a sweep: seven numbers of the run of one seed, as its summary has them. */
+enum ctsim_swept {
+    CTSIM_SWEPT_ROUNDS = 0,
+    CTSIM_SWEPT_SLOTS = 1,
+    CTSIM_SWEPT_LISTEN = 2,
+    CTSIM_SWEPT_FLOOD = 3,
+    CTSIM_SWEPT_SLEEP = 4,
+    CTSIM_SWEPT_RECORDS = 5,
+    CTSIM_SWEPT_ENDED = 6
 };
 
 /* The places of a packet, of a run's or of a text's. "Whether" is 1 for yes and 0 for no; a term that
@@ -286,6 +300,39 @@ uint64_t ctsim_write_packet(const uint64_t *packet, size_t packet_length, uint64
 uint64_t ctsim_read_packet(const uint8_t *text, size_t text_length,
                            uint64_t *packet, size_t packet_length,
                            uint64_t *flags, size_t flags_length);
+
+/*
+ * Runs a topology once with each of these seeds, and writes a line of seven numbers for each run.
+ * Line i is that of seeds[i], whichever seeds stand before and behind it: what ctsim_run_topology
+ * writes to the summary of that seed's run. The network is built and measured once, and no log,
+ * record or snapshot is written.
+ *   topology to limit  as for ctsim_run_topology, without the seed; interval is tested, and changes
+ *                      no number
+ *   seeds              at most 65,536; any numbers, equal ones too. None: no line is written
+ *   table              at least 7 places for each seed: table[7 * i] and on has the numbers of `enum
+ *                      ctsim_swept` for the run of seeds[i]
+ *   rounds             at least 1 place: rounds[0] is the sum of all lines' rounds, at most
+ *                      seeds_length * (P + 1,002)
+ * Returns 0, 1, 2, 3, 5 to 9, 15, or 100.
+ */
+uint64_t ctsim_sweep_topology(uint64_t topology, uint64_t first, uint64_t second,
+                              uint64_t repeats, uint64_t round_slots_given, uint64_t round_slots,
+                              double loss, uint64_t proposals, uint64_t interval, uint64_t limit,
+                              const uint64_t *seeds, size_t seeds_length,
+                              uint64_t *table, size_t table_length,
+                              uint64_t *rounds, size_t rounds_length);
+
+/*
+ * Runs n nodes with these rows once with each of these seeds. Rows are as for ctsim_diameter, all
+ * else as for ctsim_sweep_topology.
+ * Returns 0, 2, 4 to 9, 15, or 100.
+ */
+uint64_t ctsim_sweep_rows(const uint32_t *rows, size_t rows_length, uint64_t n,
+                          uint64_t repeats, uint64_t round_slots_given, uint64_t round_slots,
+                          double loss, uint64_t proposals, uint64_t interval, uint64_t limit,
+                          const uint64_t *seeds, size_t seeds_length,
+                          uint64_t *table, size_t table_length,
+                          uint64_t *rounds, size_t rounds_length);
 
 #ifdef __cplusplus
 }

@@ -2,7 +2,7 @@
  * Calls each entry of include/ctsim.h with slices that are empty, short, exact and long, and checks
  * the result, what was written and that every other place still holds its mark. The tests of the
  * previews are in previews.c, those of the writer and the reader of a packet's text in packets.c and
- * texts.c. tests/capi.sh builds all into one program and runs it.
+ * texts.c, those of the sweeps in sweeps.c. tests/capi.sh builds all into one program and runs it.
  */
 #include <math.h>
 #include <string.h>
@@ -10,6 +10,7 @@
 #include "check.h"
 #include "packets.h"
 #include "previews.h"
+#include "sweeps.h"
 #include "texts.h"
 
 static void test_draws(void)
@@ -283,5 +284,11 @@ int main(void)
     test_damaged();
     test_fields();
     test_values();
+    test_sweeps();
+    test_sweep_order();
+    test_most_seeds();
+    test_swept_runs();
+    test_swept_networks();
+    test_sweep_no_trace();
     return report();
 }

@@ -4,7 +4,8 @@
 set -u
 cd "$(dirname "$0")/.." || exit 2
 rt staticlib capi >/dev/null || exit 2
-"${CC:-cc}" -std=c99 -Wall -Wextra -pedantic -Iinclude examples/charge.c target/staticlib/libcapi.a -o target/charge || exit 2
+"${CC:-cc}" -std=c99 -Wall -Wextra -pedantic -Iinclude examples/charge.c examples/words.c \
+    target/staticlib/libcapi.a -o target/charge || exit 2
 passed=0
 failed=0
 

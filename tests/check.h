@@ -22,15 +22,17 @@ int kept(const void *from, const void *to);
 /* Whether an array holds these bytes behind `before` marked ones, and marks else. */
 int holds(const void *array, size_t size, size_t before, const void *bytes, size_t length);
 
-/* A run of a topology, or, where there are rows, of those; the round of it that is looked at; and how
- * many places each slice has. */
+/* A run of a topology, or, where there are rows, of those; the round of it that is looked at; the seeds
+ * that it is swept over; and how many places each slice has. */
 struct run {
     const uint32_t *rows;
-    size_t rows_length;
+    const uint64_t *seeds;
+    size_t rows_length, seeds_length;
     uint64_t topology, first, second, repeats, given, round_slots;
     double loss;
     uint64_t seed, proposals, interval, limit, round;
     size_t summary_length, logs_length, records_length, snapshots_length, packet_length, part_length;
+    size_t table_length, rounds_length;
 };
 
 /* A run that loses packets, with NACKs and piggybacks. */

@@ -4,7 +4,7 @@
 use Prim.Native.Nat.{ℕ}
 use mathlib.Core.Path.{_≡_, refl, subst}
 use mathlib.Core.Bool.{Bool, true, false, cond, _&&_}
-use mathlib.Core.List.{List, [], _∷_, _++_}
+use mathlib.Core.List.{List, [], _∷_, _++_, map}
 use mathlib.Core.Option.{Option, none, some}
 use native.Mathlib.Omega.{arith}
 use lib.Dec.{eqb, leb}
@@ -34,6 +34,8 @@ use Rattle.wire_reader.specs.Reading.{reading, nothingBehind}
 use Rattle.wire_reader.specs.declared.Reading.{Reading}
 use Rattle.preview.specs.declared.Preview.{Preview}
 use Rattle.preview.specs.Preview.{previewAs, previewIn, previewUnless, previewFor}
+use Rattle.sweep.specs.declared.Sweep.{Sweep}
+use Rattle.sweep.specs.Sweep.{summaryFor, sweepQuestions, sweepRefusalFor, sweptUnless, sweepFor}
 
 -- the questions' numbers are above 0 and below 100
 abbrev numbered : List (Bool × ℕ) → Bool
@@ -73,6 +75,19 @@ preview-numbered q c k j e = go (refusalFor q c) (first-numbered (networkQuestio
     go : (o : Option ℕ) → (o ≡ some j → within 1 99 j ≡ true) → previewUnless o (givenFor q c) k ≡ Preview.Refused j → within 1 99 j ≡ true
     go none refused p = of-round (getElem? (run (givenFor q c) .running .rounds) k) p
     go (some i) refused p = refused cc
+
+pub sweep-numbered : (q : RowsOrTopology) (c : Config) (seeds table : List ℕ) (k : ℕ) → sweepFor q c seeds table .0 ≡ Sweep.Refused k → within 1 99 k ≡ true
+unfolding sweepFor sweepRefusalFor
+sweep-numbered q c seeds table k e =
+    first-numbered (networkQuestions q ++ sweepQuestions c (length seeds) (length table)) k (asked q) (go (sweepRefusalFor q c (length seeds) (length table)) e)
+  where
+    asked : (q : RowsOrTopology) → numbered (networkQuestions q ++ sweepQuestions c (length seeds) (length table)) ≡ true
+    asked (ofRows rows n) = refl
+    asked (ofTopology topology first second) = refl
+
+    go : (o : Option ℕ) → sweptUnless o (map (summaryFor q c) seeds) table .0 ≡ Sweep.Refused k → o ≡ some k
+    go none p = let z : _≡_ {A = ℕ} 0 1 = cc in absurd (omega arith)
+    go (some j) p = cc
 
 pub rows-numbered : (topology first second : ℕ) (out : List ℕ) (k : ℕ) → builtRows topology first second out .0 ≡ Built.Refused k → within 1 99 k ≡ true
 rows-numbered topology first second out k e = first-numbered (topologyQuestions topology first second ++ (leb (nodesOf topology first second) (length out), 10) ∷ []) k refl (go (builderRefusal topology first second (length out)) e)

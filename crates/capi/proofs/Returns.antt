@@ -7,6 +7,7 @@ use mathlib.Core.List.{List}
 use lib.Ieee.{Float}
 use lib.ListN.{length}
 use borrow.Author.Tests.{le-leb, lt-leb}
+use Rattle.config.specs.declared.Config.{Config}
 use Rattle.network.specs.Topology.{builtRows}
 use Rattle.network.specs.Distance.{measured}
 use Rattle.network.specs.declared.topology.Built.{Built}
@@ -15,11 +16,15 @@ use Rattle.rules.specs.declared.answer.Answer.{Answer}
 use Rattle.metrics.specs.declared.ratios.Ratio.{Ratio}
 use Rattle.metrics.specs.declared.summary.Summary.{Summary}
 use Rattle.rules.specs.Entries.{Outcome}
+use Rattle.rules.specs.Networks.{RowsOrTopology}
 use Rattle.rules.specs.Answers.{outcome}
 use Rattle.metrics.specs.Ratio.{ratioOf}
 use Rattle.marshal.specs.Convert.{summarySize, ratioResult, summaryAt, resultOf, withSummary}
 use Rattle.marshal.specs.Packets.{packetSize}
-use Rattle.capi.specs.Capi.{short, builtResult, returnedRows, measuredResult, returnedDiameter, returnedRatio, returnedOf, returned, returnedOutcome, returnedRun, ifRoom}
+use Rattle.marshal.specs.Sweeps.{sweepResult}
+use Rattle.sweep.specs.declared.Sweep.{Sweep}
+use Rattle.sweep.specs.Sweep.{sweepFor}
+use Rattle.capi.specs.Capi.{short, builtResult, returnedRows, measuredResult, returnedDiameter, returnedRatio, returnedOf, returned, returnedOutcome, returnedRun, ifRoom, sweptResult, returnedSweep}
 
 module _ (topology first second : ℕ) (out nodes : List ℕ) where
   pub rows-short : length nodes < 1 → _≡_ {A = ℕ × List ℕ × List ℕ} (short, out, nodes) (returnedRows topology first second out nodes)
@@ -91,3 +96,15 @@ module _ (packet number : List ℕ) (done refused : ℕ × List ℕ × List ℕ)
   pub room : packetSize ≤ length packet → 1 ≤ length number → done ≡ ifRoom packet number done refused
   unfolding ifRoom
   room h l = rw (le-leb _ _ h, le-leb 1 (length number) l)
+
+-- a sweep's slice for the sum of its rounds
+module _ (q : RowsOrTopology) (c : Config) (seeds table rounds : List ℕ) where
+  pub sweep-short : length rounds < 1 → _≡_ {A = ℕ × List ℕ × List ℕ} (short, table, rounds) (returnedSweep q c seeds table rounds)
+  unfolding returnedSweep
+  sweep-short h = rw (lt-leb _ _ h)
+
+  pub sweep-returned : 1 ≤ length rounds → (a : Sweep) (after : List ℕ) (k : ℕ) (r : List ℕ) → _≡_ {A = Sweep × List ℕ} (a, after) (sweepFor q c seeds table) →
+      _≡_ {A = ℕ × List ℕ} (k, r) (sweepResult a rounds) → _≡_ {A = ℕ × List ℕ × List ℕ} (k, after, r) (returnedSweep q c seeds table rounds)
+  unfolding returnedSweep
+  sweep-returned h a after k r e written =
+      rw (le-leb _ _ h) (ap (λ (x : ℕ × List ℕ). (x .0, after, x .1)) written ∙ ap (λ (x : Sweep × List ℕ). sweptResult x rounds) e)

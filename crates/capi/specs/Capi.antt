@@ -21,9 +21,12 @@ use Rattle.rules.specs.Entries.{Outcome, givenFor, runOfRows, runOfTopology}
 use Rattle.metrics.specs.Ratio.{ratioOf}
 use Rattle.preview.specs.declared.Preview.{Preview}
 use Rattle.preview.specs.Preview.{previewFor}
+use Rattle.sweep.specs.declared.Sweep.{Sweep}
+use Rattle.sweep.specs.Sweep.{sweepFor}
 use Rattle.marshal.specs.Convert.{summarySize, ratioResult, summaryAt, resultOf, withSummary}
 use Rattle.marshal.specs.Packets.{packetSize}
 use Rattle.marshal.specs.Previews.{previewResult}
+use Rattle.marshal.specs.Sweeps.{sweepResult}
 use Rattle.marshal.specs.Texts.{readingResult, writtenFrom}
 use Rattle.wire.specs.Grammar.{textMost}
 use Rattle.wire_reader.specs.declared.Reading.{Reading}
@@ -105,6 +108,17 @@ returnedText packet n text written = ifRoom packet written (writtenFrom packet n
 -- the packet of a text: the result, the packet's slice and that of its number of flags
 abbrev pub returnedPacket : Reading → List ℕ → List ℕ → ℕ × List ℕ × List ℕ
 returnedPacket answer packet flags = ifRoom packet flags (readingResult answer packet flags) (short, packet, flags)
+
+-- a sweep's seeds are a list, and its configuration has none of its own
+abbrev pub noSeed : ℕ
+noSeed = 0
+
+-- sweep: the result, the table and the slice of the sum of the rounds
+abbrev pub sweptResult : Sweep × List ℕ → List ℕ → ℕ × List ℕ × List ℕ
+sweptResult (answer, after) rounds = let r = sweepResult answer rounds in (r .0, after, r .1)
+
+unfoldable pub returnedSweep : RowsOrTopology → Config → List ℕ → List ℕ → List ℕ → ℕ × List ℕ × List ℕ
+returnedSweep q c seeds table rounds = cond (leb 1 (length rounds)) (sweptResult (sweepFor q c seeds table) rounds) (short, table, rounds)
 
 -- What a look ahead shows is written: where the one entry has returned 0, the other returns 0 for the slice that it has left, with as many flags as
 -- the run has nodes and room for any text.

@@ -1,5 +1,7 @@
 // The entries for programs in C. Each takes numbers and slices alone, where a slice is a pointer and a length in C, and
 // returns 0 or the number of the refusal, which leaves every slice as it was. `include/ctsim.h` declares them.
+pub mod sweeps;
+
 use marshal::convert::SUMMARY_SIZE;
 use marshal::convert::config_from;
 use marshal::convert::read_summary;
@@ -36,7 +38,7 @@ ghost use Rattle.marshal.specs.Convert.{configFrom};
 ghost use Rattle.wire_reader.specs.Reading.{reading};
 
 // What only these entries return: the slice of a summary, of a packet or of a single result is too short.
-const SHORT: u64 = 100;
+pub const SHORT: u64 = 100;
 
 // Fills a slice with the draws of a seed, from draw 0 on. Never refused.
 #[no_mangle]

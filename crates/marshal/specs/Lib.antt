@@ -2,4 +2,5 @@
 pub mod Convert
 pub mod Packets
 pub mod Previews
+pub mod Sweeps
 pub mod Texts

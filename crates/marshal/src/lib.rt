@@ -1,5 +1,6 @@
-// Values as the numbers that a call has in C: the configuration, a summary, a ratio, a packet and its text.
+// Values as the numbers that a call has in C: the configuration, a summary, a ratio, a packet and its text, a sweep.
 pub mod convert;
 pub mod packets;
 pub mod previews;
+pub mod sweeps;
 pub mod texts;

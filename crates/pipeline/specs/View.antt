@@ -14,7 +14,7 @@ use Rattle.phy.specs.declared.packet.Packet.{Packet}
 use Rattle.phy.specs.declared.packet.Piggyback.{Piggyback}
 use Rattle.protocol.specs.Layout.{nodeSize, firstOf}
 use Rattle.protocol.specs.Paxos.{State}
-use Rattle.protocol.specs.View.{view, Kept, TermsBelow, backBelow}
+use Rattle.protocol.specs.View.{view, Kept, NoTerm, TermsBelow, backBelow}
 use Rattle.pipeline.specs.declared.records.ProposalRecord.{ProposalRecord}
 use Rattle.pipeline.specs.declared.records.Recorded.{Recorded}
 use Rattle.pipeline.specs.declared.carry.Carry.{Carry}
@@ -89,6 +89,12 @@ tableSize n =
 pub record AllKept (c n : ℕ) (b : List ℕ) : Type 0 where
   pub room : length b ≡ tableSize n
   pub each : (j : ℕ) → j < n → Kept c b (firstOf j)
+
+-- The tables before the first round of n nodes: no node has a term, and no proposal was made.
+pub record Cleared (n : ℕ) (b t : List ℕ) : Type 0 where
+  pub room : length b ≡ tableSize n
+  pub each : (j : ℕ) → j < n → NoTerm b (firstOf j)
+  pub started : Started 0 t
 
 -- ---- what the rounds carry: x with the table b of states and the history t
 

@@ -7,6 +7,7 @@ use network::graph::full_set;
 use network::units::NodeId;
 use network::units::Slot;
 use network::units::Term;
+use phy::packet::Data;
 use phy::packet::Nack;
 use phy::packet::Packet;
 use phy::packet::Piggyback;
@@ -17,7 +18,7 @@ ghost use mathlib.Core.Path.{_≡_};
 ghost use mathlib.Core.Bool.{cond};
 ghost use Prim.Native.Nat.{_+_, _≤_, _<_};
 ghost use Rattle.config.specs.Limits.{maxTerms, countBound};
-ghost use Rattle.pipeline.specs.Round.{oneNack};
+ghost use Rattle.pipeline.specs.Round.{oneNack, onePiggyback, latest};
 ghost use Rattle.pipeline.specs.View.{Started, Starts, MayPrepare, Prepares, MayTake, TakesTurn, MayProcess, Processes, replaced, withoutPiggyback};
 
 // What the rounds carry after `prepare_round`, and the packet to be flooded.
@@ -86,23 +87,53 @@ pub fn prepare_round(
     }
 }
 
+fn one_piggyback(recovery: Piggyback) -> u64
+    ensures { λ r. ⌜ r ≡ onePiggyback recovery ⌝ }
+{
+    match recovery {
+        Piggyback::None => 0,
+        Piggyback::Of(_, _) => 1,
+    }
+}
+
+// The same piggyback, made anew. A copy would take its unused bytes along, in pieces that overlap, and the next turn's copy
+// would wait for them.
+fn made_anew(p: Piggyback) -> Piggyback
+    ensures { λ r. ⌜ r ≡ p ⌝ }
+{
+    let Piggyback::Of(t, d) = p else {
+        return Piggyback::None;
+    };
+    let Data::Of(u) = d else {
+        return Piggyback::Of(t, Data::Empty);
+    };
+    Piggyback::Of(t, Data::Of(u))
+}
+
+// A turn's piggyback, if there is one, else that before it.
+fn latest(recovery: Piggyback, before: Piggyback) -> Piggyback
+    ensures { λ r. ⌜ r ≡ latest recovery before ⌝ }
+{
+    match recovery {
+        Piggyback::None => made_anew(before),
+        Piggyback::Of(t, d) => made_anew(Piggyback::Of(t, d)),
+    }
+}
+
 // A turn's piggyback, if there is one, in the place of that before it, and counted.
 fn recovered(y: Carry, recovery: Piggyback) -> Carry
     requires { ⌜ y .piggybacks < countBound ⌝ }
     ensures { λ r. ⌜ r ≡ replaced recovery y ⌝ }
 {
-    match recovery {
-        Piggyback::None => y,
-        Piggyback::Of(t, d) => {
-            let recorded = y.recorded;
-            Carry {
-                counter: y.counter,
-                recorded,
-                piggyback: Piggyback::Of(t, d),
-                nacks: y.nacks,
-                piggybacks: y.piggybacks + 1,
-            }
-        }
+    let recorded = y.recorded;
+    let before = y.piggyback;
+    let counted = y.piggybacks + one_piggyback(recovery);
+    Carry {
+        counter: y.counter,
+        recorded,
+        piggyback: latest(recovery, before),
+        nacks: y.nacks,
+        piggybacks: counted,
     }
 }
 

@@ -1,22 +1,19 @@
 -- Round k of a run, from the rounds that were played; and every run seen ahead. Assumes nothing.
 use Prim.Native.Nat.{ℕ, _+_, _-_, _≤_, _<_}
 use mathlib.Core.Path.{_≡_, refl, sym, ap, _∙_}
-use mathlib.Core.Logic.{⊎-elim}
 use mathlib.Core.Option.{Option, none, some}
 use native.Mathlib.Omega.{arith}
 use lib.ListN.{length, getElem?}
 use Rattle.config.specs.Limits.{mostRounds}
 use Rattle.config.specs.declared.Config.{Config}
 use Rattle.metrics.specs.declared.summary.Summary.{Summary}
-use Rattle.rules.specs.Networks.{RowsOrTopology, networkQuestions}
-use Rattle.rules.specs.Questions.{configQuestions, bufferQuestions, runQuestions, refusalFor, runRefusalFor}
+use Rattle.rules.specs.Networks.{RowsOrTopology}
+use Rattle.rules.specs.Questions.{refusalFor}
 use Rattle.rules.specs.Run.{Given, Past, runFor, run}
-use Rattle.rules.specs.Entries.{givenFor, outcomeFor}
+use Rattle.rules.specs.Entries.{givenFor}
 use Rattle.rules.specs.Answers.{seenRound}
-use Rattle.rules.proofs.Admitted.{admitted, refused-so}
-use Rattle.rules.proofs.FirstNo.{either-no, buffer-no}
+use Rattle.rules.proofs.Admitted.{admitted, refused-for}
 use Rattle.rules.proofs.FirstRounds.{elem-beyond, elem-within, first-rounds, few-rounds, made-of}
-use Rattle.rules.proofs.Found.{network-no, network-yes}
 use Rattle.rounds.specs.declared.run.LastRound.{LastRound}
 use Rattle.rounds.specs.declared.run.LastRound.the-variants.{None, Of}
 use Rattle.rounds.specs.Going.{lastRound}
@@ -79,13 +76,4 @@ runs-seen-ahead q c logs records snapshots s e =
     }
 
 pub refusals-seen-ahead : RefusalsSeenAhead
-unfolding outcomeFor runRefusalFor
-refusals-seen-ahead q c logs records snapshots question e other k =
-    sym
-    (refused q c k question
-    (⊎-elim (network-no q c question)
-    (λ h. network-yes q c (h .0)
-    ∙ ⊎-elim (λ w. w) (λ w. absurd (other (buffer-no (length logs) (length records) question (w .1))))
-    (either-no (configQuestions c) (bufferQuestions (length logs) (length records)) question (h .1)))
-    (either-no (networkQuestions q) (runQuestions c (length logs) (length records)) question
-    (refused-so (runRefusalFor q c (length logs) (length records)) (givenFor q c) logs records snapshots question e))))
+refusals-seen-ahead q c logs records snapshots question e other k = sym (refused q c k question (refused-for q c logs records snapshots question e other))

@@ -8,7 +8,7 @@ use mathlib.Core.Path.{_≡_, refl, sym, ap, ap₂, _∙_, subst}
 use native.Mathlib.Nat.{le-trans}
 use native.Mathlib.Omega.{arith}
 use lib.Count.{ones, ones-le}
-use lib.ListN.{length, getD, set, length-set, replicate, length-replicate}
+use lib.ListN.{length, getD, set, length-set, replicate}
 use lib.Seq.{getD-set-other}
 use Rattle.network.specs.Graph.{has}
 use Rattle.random.specs.Table.{tabulate}
@@ -17,7 +17,7 @@ use Rattle.network.proofs.Sets.{has-below}
 use Rattle.random.proofs.Tables.{tabulate-cong}
 use Rattle.protocol.specs.Layout.{dataPlace, logPlace, pendingPlace, loggedPlace, lastPlace, nodeSize}
 use Rattle.protocol.specs.Paxos.{State, logged, empty}
-use Rattle.protocol.specs.View.{lastOf, dataAt, dataOf, termAt, pendingSet, loggedSet, lastAt, entryAt, logOf, pendingOf, view, Distinct, Kept, Wrote}
+use Rattle.protocol.specs.View.{lastOf, dataAt, dataOf, termAt, pendingSet, loggedSet, lastAt, entryAt, logOf, pendingOf, view, Distinct, Kept, NoTerm, Wrote}
 use Rattle.protocol.proofs.Places.{either}
 use Rattle.protocol.proofs.Logs.{logged-each}
 use Rattle.protocol.proofs.Words.{in-word}
@@ -160,30 +160,34 @@ wrote-same-before w h = record { size = w .size; places = λ k l. w .before _ (o
 
 -- ---- the first state
 
+module _ {b : List ℕ} {at : ℕ} (no : NoTerm b at) where
+  none-logged : logOf b at ≡ []
+  unfolding logOf tabulate ones
+  none-logged = rw (no .logged)
+
+  pub first-view : view b at ≡ empty
+  unfolding pendingOf
+  first-view = state-is none-logged (λ t. rw (no .pending, has-zero t)) (ap lastOf (no .last))
+
+  pub first-kept : at + nodeSize ≤ length b → Kept 0 b at
+  unfolding logged Distinct
+  first-kept h =
+      record {
+        room = omega arith;
+        fits = h;
+        pending-below = λ t g. rw (no .pending) (has-zero t);
+        logged-below = λ t g. rw (no .logged) (has-zero t);
+        last-below = omega (arith, no .last);
+        apart = λ t g. rw (no .pending) (has-zero t);
+        logged-is = λ t. rw (none-logged, no .logged, has-zero t);
+        distinct = rw none-logged tt;
+      }
+
+-- zeros are no terms
 pub zeros : (n t : ℕ) → _≡_ {A = ℕ} (getD (replicate n 0) t 0) 0
 zeros zero t = refl
 zeros (suc n) zero = refl
 zeros (suc n) (suc t) = zeros n t
 
-module _ (m at : ℕ) where
-  none-logged : logOf (replicate m 0) at ≡ []
-  unfolding logOf tabulate ones
-  none-logged = rw (zeros m (at + loggedPlace))
-
-  pub fresh-view : view (replicate m 0) at ≡ empty
-  unfolding pendingOf
-  fresh-view = state-is none-logged (λ t. rw (zeros m (at + pendingPlace), has-zero t)) (ap lastOf (zeros m (at + lastPlace)))
-
-  pub fresh-kept : at + nodeSize ≤ m → Kept 0 (replicate m 0) at
-  unfolding logged Distinct
-  fresh-kept h =
-      record {
-        room = omega arith;
-        fits = omega (arith, length-replicate {A = ℕ} m 0);
-        pending-below = λ t g. rw (zeros m (at + pendingPlace)) (has-zero t);
-        logged-below = λ t g. rw (zeros m (at + loggedPlace)) (has-zero t);
-        last-below = omega (arith, zeros m (at + lastPlace));
-        apart = λ t g. rw (zeros m (at + pendingPlace)) (has-zero t);
-        logged-is = λ t. rw (none-logged, zeros m (at + loggedPlace), has-zero t);
-        distinct = rw none-logged tt;
-      }
+pub zeros-no-term : (n at : ℕ) → NoTerm (replicate n 0) at
+zeros-no-term n at = record { pending = zeros n (at + pendingPlace); logged = zeros n (at + loggedPlace); last = zeros n (at + lastPlace) }

@@ -91,6 +91,12 @@ pub record Kept (c : ℕ) (b : List ℕ) (at : ℕ) : Type 0 where
   pub logged-is : (t : ℕ) → logged t (logOf b at) ≡ has (loggedSet b at) t
   pub distinct : Distinct (logOf b at)
 
+-- The node at this place has no term: none pending, none logged, none accepted. Its other numbers are then not looked at.
+pub record NoTerm (b : List ℕ) (at : ℕ) : Type 0 where
+  pub pending : pendingSet b at ≡ 0
+  pub logged : loggedSet b at ≡ 0
+  pub last : lastAt b at ≡ 0
+
 -- only the numbers of the node at this place are other ones in b'
 pub record Wrote (at : ℕ) (b b' : List ℕ) : Type 0 where
   pub size : length b' ≡ length b

@@ -5,6 +5,7 @@
 // rest ask for one round: 12 of the printed run and about it, 350 chosen likewise among those of
 // `inputs previews`, and the rounds of the worked example of docs/RULES.md. `stdout` is what `oracle/`'s program `answer` prints for `stdin`.
 mod rounds_shown;
+mod sweeps_shown;
 
 use config::limits::LISTED_SIZE;
 use config::limits::LOG_SIZE;
@@ -26,6 +27,9 @@ use rounds_shown::show_round_of_rows;
 use rounds_shown::show_round_of_topology;
 use rules::answer::Answer;
 use sim::entries::run_rows;
+use sweeps_shown::Seeds;
+use sweeps_shown::show_sweep_of_rows;
+use sweeps_shown::show_sweep_of_topology;
 use text::numeral::Number;
 use text::numeral::decimal;
 use text::numeral::numeral;
@@ -117,13 +121,14 @@ fn run_sets(rows: &[u32], nodes: u64, line: Line, out: &mut [u8]) -> usize
     }
 }
 
-// What a line asks for: the run, or one round of it.
+// What a line asks for: the run, one round of it, or a sweep.
 enum Wanted {
     Run,
     Round(u64),
+    Sweep(Seeds),
 }
 
-// Answers for the rows. A round is printed at once, and leaves nothing in the buffer.
+// Answers for the rows. A round and a sweep are printed at once, and leave nothing in the buffer.
 fn answer_sets(rows: &[u32], nodes: u64, line: Line, wanted: Wanted, out: &mut [u8]) -> usize
     ensures { λ r. ⌜ r ≤ listingMost ⌝ }
 {
@@ -131,6 +136,10 @@ fn answer_sets(rows: &[u32], nodes: u64, line: Line, wanted: Wanted, out: &mut [
         Wanted::Run => run_sets(rows, nodes, line, out),
         Wanted::Round(k) => {
             show_round_of_rows(rows, nodes, config_of(line), k);
+            0
+        }
+        Wanted::Sweep(seeds) => {
+            show_sweep_of_rows(rows, nodes, config_of(line), seeds);
             0
         }
     }
@@ -166,6 +175,13 @@ fn answer_topology(line: &[u8], wanted: Wanted, out: &mut [u8]) -> usize
                 0
             }
         },
+        Wanted::Sweep(seeds) => match read_line(line) {
+            Read::Unreadable => write_refusal(12, out),
+            Read::Line(l) => {
+                show_sweep_of_topology(l, seeds);
+                0
+            }
+        },
     }
 }
 
@@ -179,10 +195,39 @@ fn answer_wanted(line: &[u8], wanted: Wanted, out: &mut [u8]) -> usize
     answer_topology(line, wanted, out)
 }
 
-// The answer to a line, or to one behind `round K`: the third letter tells it from `rows`.
+// The answer to `sweep LENGTH COUNT FIRST STEP` and the line behind it.
+fn answer_sweep(line: &[u8], out: &mut [u8]) -> usize
+    ensures { λ r. ⌜ r ≤ listingMost ⌝ }
+{
+    let Number::Of(length) = decimal(field(line, 1)) else {
+        return write_refusal(12, out);
+    };
+    let Number::Of(count) = decimal(field(line, 2)) else {
+        return write_refusal(12, out);
+    };
+    let Number::Of(first) = decimal(field(line, 3)) else {
+        return write_refusal(12, out);
+    };
+    let Number::Of(step) = decimal(field(line, 4)) else {
+        return write_refusal(12, out);
+    };
+    let seeds = Seeds {
+        length,
+        count,
+        first,
+        step,
+    };
+    let at = field_start(line, 5);
+    answer_wanted(&line[at..], Wanted::Sweep(seeds), out)
+}
+
+// The answer to a line, to one behind `round K`, which the third letter tells from `rows`, or to a sweep.
 fn answer(line: &[u8], out: &mut [u8]) -> usize
     ensures { λ r. ⌜ r ≤ listingMost ⌝ }
 {
+    if byte_at(line, 0) == b's' {
+        return answer_sweep(line, out);
+    }
     if byte_at(line, 2) != b'u' {
         return answer_wanted(line, Wanted::Run, out);
     }

@@ -9,12 +9,12 @@ use preview::Preview;
 use preview::preview_rows;
 use preview::preview_topology;
 
-fn put_spaced(n: u64) {
+pub fn put_spaced(n: u64) {
     io::write_all(STDOUT_FILENO, b" ");
     io::print_decimal(STDOUT_FILENO, n);
 }
 
-fn put_refused(question: u64) {
+pub fn put_refused(question: u64) {
     io::write_all(STDOUT_FILENO, b"refused");
     put_spaced(question);
 }

@@ -26,10 +26,10 @@ use Rattle.phy.proofs.Count.{count-none}
 use Rattle.phy.proofs.Snapshots.{scheduled-none}
 use Rattle.protocol.specs.Layout.{nodeSize, firstOf}
 use Rattle.protocol.specs.Paxos.{empty}
-use Rattle.protocol.proofs.Frame.{fresh-view, fresh-kept, zeros as no-start}
+use Rattle.protocol.proofs.Frame.{first-view, first-kept, zeros, zeros-no-term}
 use Rattle.pipeline.specs.declared.carry.Carry.{Carry}
 use Rattle.pipeline.specs.Round.{recorded}
-use Rattle.pipeline.specs.View.{fewNodes, someNodes, historySize, Recording, Sharing, statesOf, recordsOf, sharedOf, tableSize}
+use Rattle.pipeline.specs.View.{fewNodes, someNodes, historySize, Cleared, Recording, Sharing, statesOf, recordsOf, sharedOf, tableSize}
 use Rattle.rules.specs.Run.{Given, begin}
 use Rattle.rules.proofs.Sums.{sum-new}
 use Rattle.rounds.specs.Going.{NewRadios, NewRun}
@@ -105,7 +105,7 @@ pub table-all : (n : ℕ) → someNodes < n → replicate {A = ℕ} (nodeSize * 
 table-all n l = rw (lt-leb n fewNodes (omega arith), lt-leb n someNodes l)
 
 -- the table has room for all of them
-table-fits : (n : ℕ) → n ≤ maxNodes → nodeSize * n ≤ tableSize n
+pub table-fits : (n : ℕ) → n ≤ maxNodes → nodeSize * n ≤ tableSize n
 table-fits n few = go (two (leb n fewNodes)) (two (leb n someNodes))
   where
     go : (leb n fewNodes ≡ true) ⊎ (leb n fewNodes ≡ false) → (leb n someNodes ≡ true) ⊎ (leb n someNodes ≡ false) → nodeSize * n ≤ tableSize n
@@ -113,42 +113,61 @@ table-fits n few = go (two (leb n fewNodes)) (two (leb n someNodes))
     go (inr e) (inl w) = rw (e, w) (omega (arith, leb-true n someNodes w))
     go (inr e) (inr w) = rw (e, w) (omega (arith, few))
 
+-- tables of zeros are cleared
+pub zeros-cleared : (n : ℕ) {b : List ℕ} → b ≡ replicate (tableSize n) 0 → Cleared n b (replicate historySize 0)
+zeros-cleared n e =
+    subst⁻¹ (λ (b : List ℕ). Cleared n b (replicate historySize 0)) e
+    (record {
+      room = length-replicate (tableSize n) 0;
+      each = λ j h. zeros-no-term (tableSize n) (firstOf j);
+      started = record { room = refl; unused = λ t h w. zeros historySize t };
+    })
+
 module _ (n : ℕ) (few : n ≤ maxNodes) where
   abbrev newCarry : Carry
   newCarry = record { counter = 0; recorded = record { count = 0; terms = 0 }; piggyback = Piggyback.None; nacks = 0; piggybacks = 0 }
 
-  recording : Recording (newCarry .recorded) (replicate historySize 0)
-  unfolding recordsOf recorded tabulate
-  recording = record { room = refl; few = sym (count-none maxTerms (has 0) (λ t h. has-zero t)); known = λ t h. has-zero t }
+  module _ {b t : List ℕ} (cleared : Cleared n b t) where
+    recording : Recording (newCarry .recorded) t
+    unfolding recordsOf recorded tabulate
+    recording = record { room = cleared .started .room; few = sym (count-none maxTerms (has 0) (λ t h. has-zero t)); known = λ t h. has-zero t }
 
-  states-new : statesOf n (replicate (tableSize n) 0) ≡ replicate n empty
-  unfolding statesOf
-  states-new =
-      sym (is-tabulate n _ empty (replicate n empty) (length-replicate n empty)
-      (λ j h. getD-replicate n j empty empty h ∙ sym (fresh-view (tableSize n) (firstOf j))))
+    states-new : statesOf n b ≡ replicate n empty
+    unfolding statesOf
+    states-new =
+        sym (is-tabulate n _ empty (replicate n empty) (length-replicate n empty)
+        (λ j h. getD-replicate n j empty empty h ∙ sym (first-view (cleared .each j h))))
 
-  new-shared : (g : Given) → g .nodes ≡ n → sharedOf n newCarry (replicate (tableSize n) 0) (replicate historySize 0) ≡ begin g .shared
-  unfolding sharedOf recordsOf tabulate
-  new-shared g e = λ j. record {
-    states = (states-new ∙ ap (λ (k : ℕ). replicate k empty) (sym e)) j;
-    counter = 0;
-    starts = [];
-    records = [];
-    piggyback = Piggyback.None;
-    nacks = 0;
-    piggybacks = 0;
-  }
+    new-shared : (g : Given) → g .nodes ≡ n → sharedOf n newCarry b t ≡ begin g .shared
+    unfolding sharedOf recordsOf tabulate
+    new-shared g e = λ j. record {
+      states = (states-new ∙ ap (λ (k : ℕ). replicate k empty) (sym e)) j;
+      counter = 0;
+      starts = [];
+      records = [];
+      piggyback = Piggyback.None;
+      nacks = 0;
+      piggybacks = 0;
+    }
 
-  new-sharing : Sharing n newCarry (replicate (tableSize n) 0) (replicate historySize 0)
-  new-sharing =
-      record {
-        few = omega arith;
-        kept = record { room = length-replicate (tableSize n) 0; each = λ j h. fresh-kept (tableSize n) (firstOf j) (omega (arith, h, table-fits n few)) };
-        started = record { room = refl; unused = λ t h w. no-start historySize t };
-        recording = recording;
-        back = tt;
-      }
+    new-sharing : Sharing n newCarry b t
+    new-sharing =
+        record {
+          few = omega arith;
+          kept = record { room = cleared .room; each = λ j h. first-kept (cleared .each j h) (omega (arith, h, cleared .room, table-fits n few)) };
+          started = cleared .started;
+          recording = recording;
+          back = tt;
+        }
 
   pub new-run : {flood : Radios} → NewRadios n flood → NewRun n (record { flood = flood; carry = newCarry; «took_part» = 0; progress = 0 })
   new-run f =
-      record { flood = f; shared = new-shared; sharing = new-sharing; took-part = refl; progress = refl; nacks = refl; piggybacks = refl }
+      record {
+        flood = f;
+        shared = λ g b t e cleared. new-shared cleared g e;
+        sharing = λ b t cleared. new-sharing cleared;
+        took-part = refl;
+        progress = refl;
+        nacks = refl;
+        piggybacks = refl;
+      }

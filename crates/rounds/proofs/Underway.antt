@@ -8,7 +8,7 @@ use native.Mathlib.Nat.{le-refl}
 use native.Mathlib.Numerals.{add-one}
 use native.Mathlib.Omega.{arith}
 use lib.Dec.{leb, eqb, ltb}
-use lib.ListN.{length, replicate, getElem?}
+use lib.ListN.{length, getElem?}
 use borrow.Author.Tests.{le-leb, lt-leb, eqb-true, eq-eqb, ne-eqb}
 use Rattle.config.specs.Limits.{maxTerms, extraRounds}
 use Rattle.random.specs.Reception.{Source}
@@ -18,7 +18,7 @@ use Rattle.phy.proofs.Snapshots.{length-with}
 use Rattle.protocol.specs.Paxos.{State}
 use Rattle.protocol.proofs.Kept.{kept-mono}
 use Rattle.pipeline.specs.Round.{Shared, shortestLog}
-use Rattle.pipeline.specs.View.{AllKept, Sharing, tableSize, statesOf, recordsOf, recordAt, sharedOf}
+use Rattle.pipeline.specs.View.{AllKept, statesOf, recordsOf, recordAt, sharedOf}
 use Rattle.rules.specs.Run.{Given, Running, Ended, begin, runRound, complete, endAfter, roundsFrom, runFor}
 use Rattle.rules.proofs.Ends.{from-limit, from-next, from-end, shortest-new}
 use Rattle.network.proofs.Sets.{two}
@@ -91,13 +91,12 @@ underway-new graph p most x w can new =
       going = record {
         shows = record {
           standing = new .flood .stands g (w .snapshots) refl;
-          shared = (λ i. sharedOf (p .nodes) (x .carry) (can .begins .no-state i) (can .begins .no-history i)) ∙ new .shared g refl;
+          shared = new .shared g (w .states) (w .history) refl (can .begins .cleared);
           took-part = new .took-part;
         };
         steady = record {
           sound = new .flood .sound (settingsOf p 0) refl (ok .repeats-low) (ok .repeats-high) (ok .interval);
-          sharing = subst⁻¹ (λ (b : List ℕ). Sharing (p .nodes) (x .carry) b (w .history)) (can .begins .no-state)
-              (subst⁻¹ (λ (t : List ℕ). Sharing (p .nodes) (x .carry) (replicate (tableSize (p .nodes)) 0) t) (can .begins .no-history) (new .sharing));
+          sharing = new .sharing (w .states) (w .history) (can .begins .cleared);
           source = subst⁻¹ (λ (k : ℕ). Source (c .«loss_rate») (g .heard) k (w .stream)) (new .flood .untried)
               (source-begins (c .«loss_rate») (c .seed) (w .stream) (can .stream));
           room = can .room;

@@ -1,13 +1,16 @@
 -- What acceptance says of a run. Assumes nothing.
 use Prim.Native.Nat.{ℕ, _≤_}
-use mathlib.Core.List.{List}
+use mathlib.Core.List.{List, _++_}
+use mathlib.Core.Logic.{⊎-elim}
 use mathlib.Core.Option.{Option, none, some}
 use mathlib.Core.Path.{_≡_, refl, ap, _∙_}
 use native.Mathlib.Omega.{arith}
+use borrow.Author.Tests.{le-leb}
 use lib.ListN.{length}
 use Rattle.config.specs.Limits.{logSize, recordsSize}
 use Rattle.network.specs.Questions.{firstNo}
 use Rattle.network.proofs.Distances.{diameter-lt}
+use Rattle.network.proofs.Within.{all-yes}
 use Rattle.metrics.specs.declared.summary.Summary.{Summary}
 use Rattle.config.specs.declared.Config.{Config}
 use Rattle.rules.specs.declared.answer.Answer.the-variants.{Ran, Refused}
@@ -16,8 +19,8 @@ use Rattle.rules.specs.Questions.{configQuestions, bufferQuestions, runQ
 use Rattle.rules.specs.Accepted.{MeasuredGraph, Accepted}
 use Rattle.rules.specs.Run.{Given, run}
 use Rattle.rules.specs.Entries.{summaryOf, ranWith, givenAs, givenFor, outcomeOf, outcomeFor}
-use Rattle.rules.proofs.FirstNo.{both-none, config-facts, buffer-facts}
-use Rattle.rules.proofs.Found.{network-measured, network-yes}
+use Rattle.rules.proofs.FirstNo.{both-none, either-no, config-facts, buffer-no, buffer-facts}
+use Rattle.rules.proofs.Found.{network-measured, network-no, network-yes}
 
 -- the buffers are long enough
 pub record Roomy (logs records : List ℕ) : Type 0 where
@@ -85,3 +88,26 @@ admitted q c logs records snapshots s e =
       ran = ap (λ (o : Option ℕ). outcomeOf o g logs records snapshots) (r .0);
       summary = r .1;
     }
+
+-- what questions 1 to 9 let pass is run, if the buffers are long enough
+pub admits : (q : RowsOrTopology) (c : Config) (logs records snapshots : List ℕ) → refusalFor q c ≡ none → Roomy logs records
+    → outcomeFor q c logs records snapshots .answer ≡ Ran (summaryOf (givenFor q c) (run (givenFor q c)))
+unfolding outcomeFor refusalFor runRefusalFor ranWith
+admits q c logs records snapshots e room =
+    let yes = both-none (networkQuestions q) (configQuestions c) e in
+    let rest = bufferQuestions (length logs) (length records) in
+    let long : firstNo rest ≡ none = rw (le-leb logSize (length logs) (room .for-logs), le-leb recordsSize (length records) (room .for-records)) in
+    ap (λ (o : Option ℕ). outcomeOf o (givenFor q c) logs records snapshots .answer)
+    (all-yes (networkQuestions q) (configQuestions c ++ rest) (yes .0) ∙ all-yes (configQuestions c) rest (yes .1) ∙ long)
+
+-- a run that is refused, and not for its buffers, is refused by questions 1 to 9
+pub refused-for : (q : RowsOrTopology) (c : Config) (logs records snapshots : List ℕ) (question : ℕ)
+    → outcomeFor q c logs records snapshots .answer ≡ Refused question → (question ≡ 10 → ⊥) → refusalFor q c ≡ some question
+unfolding outcomeFor runRefusalFor
+refused-for q c logs records snapshots question e other =
+    ⊎-elim (network-no q c question)
+    (λ h. network-yes q c (h .0)
+    ∙ ⊎-elim (λ w. w) (λ w. absurd (other (buffer-no (length logs) (length records) question (w .1))))
+    (either-no (configQuestions c) (bufferQuestions (length logs) (length records)) question (h .1)))
+    (either-no (networkQuestions q) (runQuestions c (length logs) (length records)) question
+    (refused-so (runRefusalFor q c (length logs) (length records)) (givenFor q c) logs records snapshots question e))

@@ -20,7 +20,7 @@ use Rattle.rounds.proofs.Underway.{states-are, count-is}
 
 module _ {graph : List ℕ} {p : Plan} {r : Stopped} {b₀ states history snapshots : List ℕ}
     (e : Stops graph p (mostRounds (p .config .«num_proposals»)) r b₀ states history snapshots) where
-  summary-is : summaryFrom (p .nodes) r ≡ summaryOf (planned graph p) (run (planned graph p))
+  pub summary-is : summaryFrom (p .nodes) r ≡ summaryOf (planned graph p) (run (planned graph p))
   unfolding sharedOf
   summary-is =
       let st = e .goes .shows .standing in

@@ -24,7 +24,7 @@ ghost use Rattle.rounds.specs.Going.{planned};
 ghost use Rattle.sim.specs.Filling.{CanFill, summaryFrom};
 
 // The summary of a run that has stopped. The covered nodes are those that took part (`SameCounts`).
-fn summary_of(end: Stopped, n: usize) -> Summary
+pub fn summary_of(end: Stopped, n: usize) -> Summary
     requires { ⌜ (n ≤ maxNodes) × (end .rounds ≤ mostRounds maxTerms) ⌝ }
     ensures { λ r. ⌜ r ≡ summaryFrom n end ⌝ }
 {

@@ -7,4 +7,5 @@ pub mod exact;
 pub mod library;
 pub mod packets;
 pub mod previews;
+pub mod sweeps;
 pub mod tally;

@@ -1,105 +1,11 @@
 //! The library's entries, as include/ctsim.h has them.
 
-use oracle::{Graph, Input};
+mod entries;
 
-extern "C" {
-    fn ctsim_draws(seed: u64, out: *mut u64, out_length: usize) -> u64;
-    fn ctsim_run_topology(
-        topology: u64,
-        first: u64,
-        second: u64,
-        repeats: u64,
-        round_slots_given: u64,
-        round_slots: u64,
-        loss: f64,
-        seed: u64,
-        proposals: u64,
-        interval: u64,
-        limit: u64,
-        summary: *mut u64,
-        summary_length: usize,
-        logs: *mut u8,
-        logs_length: usize,
-        records: *mut u64,
-        records_length: usize,
-        snapshots: *mut u64,
-        snapshots_length: usize,
-    ) -> u64;
-    fn ctsim_run_rows(
-        rows: *const u32,
-        rows_length: usize,
-        n: u64,
-        repeats: u64,
-        round_slots_given: u64,
-        round_slots: u64,
-        loss: f64,
-        seed: u64,
-        proposals: u64,
-        interval: u64,
-        limit: u64,
-        summary: *mut u64,
-        summary_length: usize,
-        logs: *mut u8,
-        logs_length: usize,
-        records: *mut u64,
-        records_length: usize,
-        snapshots: *mut u64,
-        snapshots_length: usize,
-    ) -> u64;
-    fn ctsim_preview_topology(
-        topology: u64,
-        first: u64,
-        second: u64,
-        repeats: u64,
-        round_slots_given: u64,
-        round_slots: u64,
-        loss: f64,
-        seed: u64,
-        proposals: u64,
-        interval: u64,
-        limit: u64,
-        round: u64,
-        packet: *mut u64,
-        packet_length: usize,
-        part: *mut u64,
-        part_length: usize,
-    ) -> u64;
-    fn ctsim_preview_rows(
-        rows: *const u32,
-        rows_length: usize,
-        n: u64,
-        repeats: u64,
-        round_slots_given: u64,
-        round_slots: u64,
-        loss: f64,
-        seed: u64,
-        proposals: u64,
-        interval: u64,
-        limit: u64,
-        round: u64,
-        packet: *mut u64,
-        packet_length: usize,
-        part: *mut u64,
-        part_length: usize,
-    ) -> u64;
-    fn ctsim_write_packet(
-        packet: *const u64,
-        packet_length: usize,
-        flags: u64,
-        text: *mut u8,
-        text_length: usize,
-        written: *mut u64,
-        written_length: usize,
-    ) -> u64;
-    fn ctsim_read_packet(
-        text: *const u8,
-        text_length: usize,
-        packet: *mut u64,
-        packet_length: usize,
-        flags: *mut u64,
-        flags_length: usize,
-    ) -> u64;
-}
+use entries::{ctsim_draws, ctsim_read_packet, ctsim_write_packet};
+use entries::{ctsim_preview_rows, ctsim_preview_topology, ctsim_run_rows, ctsim_run_topology};
+use entries::{ctsim_sweep_rows, ctsim_sweep_topology};
+use oracle::{Graph, Input};
 
 pub const SUMMARY_LENGTH: usize = 17;
 pub const LOGS_LENGTH: usize = 2080;
@@ -138,6 +44,13 @@ pub struct Buffers {
 pub struct PreviewBuffers {
     pub packet: Buffer<u64>,
     pub part: Buffer<u64>,
+}
+
+/// What a sweep writes to.
+#[derive(Clone)]
+pub struct SweepBuffers {
+    pub table: Buffer<u64>,
+    pub rounds: Buffer<u64>,
 }
 
 /// A packet and its text, of which one is given and the other is written.
@@ -278,6 +191,84 @@ pub fn preview(input: &Input, any: u64, round: u64, buffers: &mut PreviewBuffers
                 part.lent,
             )
         },
+    }
+}
+
+/// Sweeps these seeds with the input, refused or not, and gives back what the entry returns. The
+/// input's own seed is not used. `any` is for `round_slots`.
+pub fn sweep(input: &Input, any: u64, seeds: &[u64], buffers: &mut SweepBuffers) -> u64 {
+    match &input.graph {
+        Graph::Topology {
+            number,
+            nodes,
+            second,
+        } => sweep_topology([*number, *nodes, *second], input, any, seeds, buffers),
+        Graph::Rows { nodes, rows } => sweep_rows(rows, *nodes, input, any, seeds, buffers),
+    }
+}
+
+fn sweep_topology(
+    [topology, first, second]: [u64; 3],
+    input: &Input,
+    any: u64,
+    seeds: &[u64],
+    buffers: &mut SweepBuffers,
+) -> u64 {
+    let (given, round_slots) = round_slots(input, any);
+    let SweepBuffers { table, rounds } = buffers;
+    // Safety: each pointer is that of a vector or a slice with at least so many places.
+    unsafe {
+        ctsim_sweep_topology(
+            topology,
+            first,
+            second,
+            input.flood_repeats,
+            given,
+            round_slots,
+            f64::from_bits(input.loss_rate),
+            input.num_proposals,
+            input.snapshot_interval,
+            input.max_slots,
+            seeds.as_ptr(),
+            seeds.len(),
+            table.places.as_mut_ptr(),
+            table.lent,
+            rounds.places.as_mut_ptr(),
+            rounds.lent,
+        )
+    }
+}
+
+fn sweep_rows(
+    rows: &[u32],
+    nodes: u64,
+    input: &Input,
+    any: u64,
+    seeds: &[u64],
+    buffers: &mut SweepBuffers,
+) -> u64 {
+    let (given, round_slots) = round_slots(input, any);
+    let SweepBuffers { table, rounds } = buffers;
+    // Safety: as above.
+    unsafe {
+        ctsim_sweep_rows(
+            rows.as_ptr(),
+            rows.len(),
+            nodes,
+            input.flood_repeats,
+            given,
+            round_slots,
+            f64::from_bits(input.loss_rate),
+            input.num_proposals,
+            input.snapshot_interval,
+            input.max_slots,
+            seeds.as_ptr(),
+            seeds.len(),
+            table.places.as_mut_ptr(),
+            table.lent,
+            rounds.places.as_mut_ptr(),
+            rounds.lent,
+        )
     }
 }
 

@@ -1,12 +1,15 @@
 //! What a comparison saw.
 
+mod sweeps;
 mod wire;
 
 use crate::check::Checked;
 use crate::packets::{CheckedWired, Wired};
 use crate::previews::Previewed;
-use oracle::{Answer, Graph, Input, Summary};
+use crate::sweeps::CheckedSweep;
+use oracle::{Answer, Graph, Input, Summary, Sweep, Swept};
 use std::fmt;
+use sweeps::Sweeps;
 use wire::Wire;
 
 #[derive(Default)]
@@ -25,6 +28,7 @@ pub struct Tally {
     exact_of_rows: u64,
     exact_above_zero: u64,
     previews: Previews,
+    sweeps: Sweeps,
     wire: Wire,
     ctsim_seconds: f64,
     library_seconds: f64,
@@ -74,6 +78,13 @@ impl Tally {
         }
         if let Some(what) = checked.difference {
             self.add_difference(number, input.to_string(), what);
+        }
+    }
+
+    pub fn add_sweep(&mut self, number: u64, sweep: &Sweep, swept: &Swept, checked: CheckedSweep) {
+        self.sweeps.add(sweep, swept, &checked);
+        if let Some(what) = checked.difference {
+            self.add_difference(number, sweep.to_string(), what);
         }
     }
 
@@ -162,10 +173,11 @@ impl fmt::Display for Tally {
         writeln!(f, "runs that demand 3 fixes {}", self.exact)?;
         writeln!(f, "  of rows {}", self.exact_of_rows)?;
         writeln!(f, "  at a loss rate above 0 {}", self.exact_above_zero)?;
-        write!(f, "{}{}", self.previews, self.wire)?;
+        write!(f, "{}{}{}", self.previews, self.sweeps, self.wire)?;
         writeln!(f, "processor seconds of ctsim {:.0}", self.ctsim_seconds)?;
         writeln!(f, "  of the library {:.0}", self.library_seconds)?;
         writeln!(f, "  of its previews {:.0}", self.previews.seconds)?;
+        writeln!(f, "  of its sweeps {:.0}", self.sweeps.seconds)?;
         writeln!(f, "differences {}", self.differences)?;
         if let Some(first) = &self.first {
             writeln!(f, "first difference:\n  {}\n  {}", first.line, first.what)?;

@@ -1,10 +1,11 @@
 //! Inputs to compare on: a list of small ones, random ones around the limits of
-//! the questions, broken ones, and such lines with a round to preview; packets and
-//! texts of packets.
+//! the questions, broken ones, and such lines with a round to preview or with many
+//! seeds; packets and texts of packets.
 
 mod broken;
 mod packets;
 mod previews;
+mod sweeps;
 mod texts;
 
 use crate::answer::{run, Answer};
@@ -14,6 +15,7 @@ pub use packets::{faults, near_packets, packet_lines, packets};
 pub use previews::previews;
 use rand::{RngCore, SeedableRng};
 use rand_chacha::ChaCha8Rng;
+pub use sweeps::{sweep_lines, sweeps};
 pub use texts::{damaged_texts, damages, Taken};
 
 const TOPOLOGIES: [u64; 6] = [1, 2, 3, 4, 5, 6];

@@ -1,5 +1,5 @@
-//! ctsim, asked by lines of the program's form or of the rows form, for a run or one of its rounds,
-//! and by lines for a packet's text or a text's packet.
+//! ctsim, asked by lines of the program's form or of the rows form, for a run, one of its rounds or a
+//! sweep of many seeds, and by lines for a packet's text or a text's packet.
 
 mod answer;
 mod generate;
@@ -8,6 +8,7 @@ mod line;
 mod listing;
 mod preview;
 mod round;
+mod sweep;
 mod wire;
 
 pub use answer::{answer, reference, reference_difference, run};
@@ -15,8 +16,10 @@ pub use answer::{Answer, Pending, Record, Summary};
 pub use ctsim::protocol::paxos::{deserialize_packet, serialize_packet};
 pub use generate::{broken, previews, random, random_answered, small};
 pub use generate::{damaged_texts, damages, faults, near_packets, packet_lines, packets, Taken};
+pub use generate::{sweep_lines, sweeps};
 pub use input::{Graph, Input};
 pub use line::Line;
 pub use preview::Preview;
 pub use round::{place, Round, PACKET_LENGTH};
+pub use sweep::{Sweep, Swept, MAX_SEEDS, SWEPT_LENGTH};
 pub use wire::{is_taken_by_ctsim, Packet};

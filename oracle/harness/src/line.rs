@@ -1,12 +1,15 @@
 //! Lines of every form.
 
 use crate::input::{decimal, Input};
+use crate::sweep::Sweep;
 use crate::wire::Packet;
 
 /// A readable line.
 pub enum Line {
     /// A run, or of `round K LINE` the preview of round K of LINE's run.
     Run { round: Option<u64>, input: Input },
+    /// Of `sweep LENGTH COUNT FIRST STEP LINE`: LINE's run with many seeds.
+    Sweep(Sweep),
     /// Of `packet N p0 .. p12`: a packet to write.
     Packet(Packet),
     /// Of `text TEXT`: a text to read, any bytes.
@@ -22,6 +25,9 @@ impl Line {
         let line = std::str::from_utf8(line).ok()?;
         if let Some(fields) = line.strip_prefix("packet ") {
             return Packet::parse(fields).map(Line::Packet);
+        }
+        if let Some(fields) = line.strip_prefix("sweep ") {
+            return Sweep::parse(fields).map(Line::Sweep);
         }
         let (round, line) = match line.strip_prefix("round ") {
             None => (None, line),

@@ -1,8 +1,10 @@
-//! The program's listing, what can be printed after it, and the lines of one round and one packet.
+//! The program's listing, what can be printed after it, and the lines of one round, one packet and a
+//! sweep.
 
 use crate::answer::{Answer, Summary};
 use crate::preview::Preview;
 use crate::round::Round;
+use crate::sweep::{Sweep, Swept};
 use crate::wire::Packet;
 use std::fmt;
 
@@ -109,6 +111,38 @@ impl fmt::Display for Preview<'_> {
             Preview::Refused(number) => writeln!(f, "refused {number}"),
             Preview::Seen(round) => writeln!(f, "{round}"),
             Preview::Panicked => writeln!(f, "panic"),
+        }
+    }
+}
+
+impl fmt::Display for Sweep {
+    fn fmt(&self, f: &mut fmt::Formatter) -> fmt::Result {
+        let Sweep {
+            length,
+            count,
+            first,
+            step,
+            input,
+        } = self;
+        write!(f, "sweep {length} {count} {first} {step} {input}")
+    }
+}
+
+impl fmt::Display for Swept {
+    fn fmt(&self, f: &mut fmt::Formatter) -> fmt::Result {
+        match self {
+            Swept::Refused(number) => writeln!(f, "refused {number}"),
+            Swept::Ran {
+                lines,
+                rounds,
+                kept,
+            } => {
+                for line in lines {
+                    writeln!(f, "{}", line.map(|number| number.to_string()).join(" "))?;
+                }
+                writeln!(f, "rounds {rounds} kept {kept}")
+            }
+            Swept::Panicked(_) => writeln!(f, "panic"),
         }
     }
 }

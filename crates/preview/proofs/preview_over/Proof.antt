@@ -1,7 +1,9 @@
 use mathlib.Core.Path.{sym, ap, _∙_}
 use borrow.Author.Needs.{needs}
+use native.Mathlib.Omega.{arith}
 use denote.Ref.{now}
 use Rattle.rounds.specs.Going.{planned}
+use Rattle.rounds.proofs.Beginning.{zeros-cleared}
 use Rattle.preview.proofs.Seen.{ofLast, from-last}
 use Rattle.preview.proofs.preview_over.Statement.{statement}
 use Rattle.preview.proofs.preview_over.Tie as tie
@@ -9,6 +11,12 @@ use Rattle.preview.proofs.preview_over.Tie as tie
 -- the start, from where the rounds were played
 abbrev start : tie.After-play → tie.Start
 start c = c .before .before .before .before .before
+
+play-requires : tie.Need-play-requires
+play-requires c κs =
+    let s = c .before .before .before .before in
+    let ok = s .pre .0 in
+    record { accepted = ok; few = omega (arith, s .pre .1, ok .proposals); cleared = zeros-cleared (s .args .plan .nodes) (s .pre .2) }
 
 returns : tie.Need-returns
 returns c =
@@ -28,5 +36,5 @@ pub preview-over-spec : {M : Type 1} → statement M
 preview-over-spec =
     tie.close
     (tie.spec
-    (λ c. search needs) (λ c. search needs) (λ c κs. search needs) (λ c. search needs) (λ c. search needs)
+    (λ c. search needs) (λ c. search needs) play-requires (λ c. search needs) (λ c. search needs)
     (λ c. search needs) returns (λ c. search needs) returns-2)

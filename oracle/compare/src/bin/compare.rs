@@ -4,6 +4,7 @@ use compare::arguments::seed_and_count;
 use compare::check::{check, mark_of};
 use compare::clock::processor_seconds;
 use compare::packets::Wired;
+use compare::sweeps;
 use compare::tally::Tally;
 use oracle::{Answer, Input};
 use std::process::ExitCode;
@@ -18,16 +19,18 @@ Answers by ctsim and by the library, and compares: every line of `inputs small`,
 COUNT random ones (100000) and a tenth as many broken ones. A few rounds of each
 are previewed by the library and compared as well, and their packets are written
 and read. So are COUNT random packets, as many that have a fault, and as many
-damaged texts. SEED (1) is the first of the seeds that all are made from, another
-for each 500 of them.
+damaged texts. A tenth as many sweeps of up to 60 seeds are made by the library, and
+each line is compared with ctsim's run of its seed. SEED (1) is the first of the
+seeds that all are made from, another for each 500 of them.
 Status: 0 all are the same; 1 there is a difference; 2 wrong use.
 ";
 
-/// Lines or packets that one thread takes at a time.
+/// Lines, sweeps or packets that one thread takes at a time.
 const CHUNK: usize = 500;
 
 enum Chunk<'a> {
     Lines(Lines<'a>),
+    Sweeps { seed: u64, count: usize },
     Packets { seed: u64, count: usize },
 }
 
@@ -71,22 +74,19 @@ fn compare(seed: u64, count: usize) -> bool {
     let start = Instant::now();
     let threads = std::thread::available_parallelism().map_or(1, usize::from);
     let small: Vec<Input> = oracle::small().collect();
-    let broken = count / 10;
+    let tenth = count / 10;
     println!("ctsim and the library on the same lines, in one process");
     println!(
-        "small {} random {count} broken {broken} packets {count}, seed {seed}",
+        "small {} random {count} broken {tenth} sweeps {tenth} packets {count}, seed {seed}",
         small.len()
     );
-    let chunks = chunks(&small, seed, count, broken);
+    let chunks = chunks(&small, seed, count, tenth);
     let tally = Mutex::new(Tally::default());
     let next = AtomicUsize::new(0);
     let work = || loop {
         let at = next.fetch_add(1, Ordering::Relaxed);
         let Some(chunk) = chunks.get(at) else { break };
-        match chunk {
-            Chunk::Lines(lines) => compare_lines(lines, at * CHUNK, &tally),
-            Chunk::Packets { seed, count } => compare_packets(*seed, *count, at * CHUNK, &tally),
-        }
+        compare_chunk(chunk, at * CHUNK, &tally);
     };
     std::thread::scope(|scope| {
         for _ in 0..threads {
@@ -102,7 +102,15 @@ fn compare(seed: u64, count: usize) -> bool {
     tally.all_the_same()
 }
 
-/// The chunk's lines are numbered from `first` on.
+/// What the chunk has is numbered from `first` on.
+fn compare_chunk(chunk: &Chunk, first: usize, tally: &Mutex<Tally>) {
+    match *chunk {
+        Chunk::Lines(ref lines) => compare_lines(lines, first, tally),
+        Chunk::Sweeps { seed, count } => compare_sweeps(seed, count, first, tally),
+        Chunk::Packets { seed, count } => compare_packets(seed, count, first, tally),
+    }
+}
+
 fn compare_lines(lines: &Lines, first: usize, tally: &Mutex<Tally>) {
     let mut start = processor_seconds();
     for (i, line) in lines.answered().enumerate() {
@@ -123,6 +131,19 @@ fn compare_lines(lines: &Lines, first: usize, tally: &Mutex<Tally>) {
     }
 }
 
+fn compare_sweeps(seed: u64, count: usize, first: usize, tally: &Mutex<Tally>) {
+    for (i, sweep) in oracle::sweeps(seed).take(count).enumerate() {
+        let number = (first + i) as u64;
+        let start = processor_seconds();
+        let swept = sweep.run();
+        let seconds = processor_seconds() - start;
+        let checked = sweeps::check(&sweep, &swept, number);
+        let mut tally = tally.lock().expect("no thread panicked");
+        tally.add_seconds(seconds);
+        tally.add_sweep(number, &sweep, &swept, checked);
+    }
+}
+
 fn compare_packets(seed: u64, count: usize, first: usize, tally: &Mutex<Tally>) {
     for (i, wired) in Wired::all(seed, count).enumerate() {
         let number = (first + i) as u64;
@@ -132,17 +153,20 @@ fn compare_packets(seed: u64, count: usize, first: usize, tally: &Mutex<Tally>) 
     }
 }
 
-fn chunks(small: &[Input], seed: u64, random: usize, broken: usize) -> Vec<Chunk<'_>> {
+/// So many random lines and packets, and a tenth as many broken lines and sweeps.
+fn chunks(small: &[Input], seed: u64, count: usize, tenth: usize) -> Vec<Chunk<'_>> {
     let seeded = |lines: usize| {
         let counts = (0..lines)
             .step_by(CHUNK)
             .map(move |at| CHUNK.min(lines - at));
         (seed..).zip(counts)
     };
-    let packets = seeded(random).map(|(seed, count)| Chunk::Packets { seed, count });
+    let sweeps = seeded(tenth).map(|(seed, count)| Chunk::Sweeps { seed, count });
+    let packets = seeded(count).map(|(seed, count)| Chunk::Packets { seed, count });
     let small = small.chunks(CHUNK).map(Lines::Small);
-    let random = seeded(random).map(|(seed, count)| Lines::Random { seed, count });
-    let broken = seeded(broken).map(|(seed, count)| Lines::Broken { seed, count });
+    let random = seeded(count).map(|(seed, count)| Lines::Random { seed, count });
+    let broken = seeded(tenth).map(|(seed, count)| Lines::Broken { seed, count });
     let lines = small.chain(random).chain(broken);
-    lines.map(Chunk::Lines).chain(packets).collect()
+    let lines = lines.map(Chunk::Lines);
+    lines.chain(sweeps).chain(packets).collect()
 }

@@ -1,6 +1,6 @@
 //! Answers lines: one given as an argument, or all of standard input.
 
-use oracle::{run, Answer, Input, Line, Packet};
+use oracle::{run, Answer, Input, Line, Packet, Sweep, Swept};
 use std::io::{self, BufRead, BufWriter, Write};
 use std::process::ExitCode;
 
@@ -15,7 +15,13 @@ with loss as 16 and each SET as 8 lowercase hexadecimal digits. The line
   round K LINE
 is answered with round K of LINE's run alone: `packet`, its 13 numbers, `part`
 and the set of the nodes that took part; or `refused N`, by 13 if the run ends
-before round K. Two more are about packets on the wire:
+before round K. The line
+  sweep LENGTH COUNT FIRST STEP LINE
+runs LINE with the seeds FIRST + i * STEP modulo 2^64, i below COUNT, in place of
+its own, and is answered with a line for each, `ROUNDS SLOTS LISTEN FLOOD SLEEP
+RECORDS ENDED`, then `rounds SUM kept K`, K the places of a table of LENGTH numbers
+behind the lines; or `refused N`, by 15 if COUNT is above 65536 or LENGTH below
+7 * COUNT. Two more are about packets on the wire:
   packet N p0 .. p12
   text TEXT
 The first, N the number of flags, is answered with the packet's text, the second,
@@ -130,6 +136,7 @@ fn print_answer(
             faults.push("unreadable".into());
         }
         Some(Line::Run { round, input }) => faults = print_of_run(options, round, &input, output)?,
+        Some(Line::Sweep(sweep)) => faults = print_sweep(options, &sweep, output)?,
         Some(Line::Packet(packet)) => print_found(packet.write(), output)?,
         Some(Line::Text(text)) => {
             let packet = Packet::read(&text);
@@ -164,12 +171,36 @@ fn print_of_run(
         None => print_run(options, &answer, output)?,
     }
     if let Answer::Panicked(message) = &answer {
-        faults.push(format!("the Rust panicked: {message}"));
+        faults.push(panicked(message));
     }
     if options.reference {
         faults.extend(oracle::reference_difference(input));
     }
     Ok(faults)
+}
+
+/// Prints the answer to a sweep, and gives back what was wrong.
+fn print_sweep(
+    options: &Options,
+    sweep: &Sweep,
+    output: &mut impl Write,
+) -> io::Result<Vec<String>> {
+    let swept = sweep.run();
+    write!(output, "{swept}")?;
+    let mut faults = Vec::new();
+    match swept {
+        Swept::Panicked(message) => faults.push(panicked(&message)),
+        Swept::Ran { .. } if options.reference => {
+            let inputs = sweep.inputs();
+            faults.extend(inputs.filter_map(|input| oracle::reference_difference(&input)));
+        }
+        _ => {}
+    }
+    Ok(faults)
+}
+
+fn panicked(message: &str) -> String {
+    format!("the Rust panicked: {message}")
 }
 
 /// Prints the answer to a whole run, and what is to come after a listing.

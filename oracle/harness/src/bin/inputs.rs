@@ -10,6 +10,7 @@ usage: inputs small
        inputs broken SEED COUNT
        inputs previews SEED COUNT
        inputs packets SEED COUNT
+       inputs sweeps SEED COUNT
 
 Prints lines for `answer`.
   small     every topology of 2 to 4 nodes and the rows of every labelled graph of
@@ -22,6 +23,9 @@ Prints lines for `answer`.
   packets   COUNT lines `packet N p0 .. p12` and `text TEXT`: packets that have a text
             and their texts, packets of runs, and those that a fault or a damage
             spoils, of which each has its turn; texts are any bytes but a newline
+  sweeps    COUNT lines `sweep LENGTH COUNT FIRST STEP LINE`, most of them accepted, of
+            0 to 12 seeds, equal and repeated ones among them; the tables are exact,
+            longer or too short
 The same SEED gives the same lines.
 ";
 
@@ -62,6 +66,10 @@ fn print_lines(arguments: &[String]) -> Result<(), String> {
         ["packets", seed, count] => {
             let count = number("COUNT", count)? as usize;
             write_bytes(oracle::packet_lines(number("SEED", seed)?).take(count))
+        }
+        ["sweeps", seed, count] => {
+            let count = number("COUNT", count)? as usize;
+            write_all(oracle::sweep_lines(number("SEED", seed)?).take(count))
         }
         _ => Err(format!("wrong arguments\n\n{HELP}")),
     }

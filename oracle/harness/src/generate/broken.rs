@@ -16,10 +16,15 @@ impl Source {
         if self.below(4) == 0 {
             return self.unreadable(&input.to_string());
         }
-        for _ in 0..1 + self.below(2) {
-            self.break_value(&mut input);
-        }
+        self.break_values(&mut input);
         input.to_string()
+    }
+
+    /// One or two of them.
+    pub(super) fn break_values(&mut self, input: &mut Input) {
+        for _ in 0..1 + self.below(2) {
+            self.break_value(input);
+        }
     }
 
     fn break_value(&mut self, input: &mut Input) {

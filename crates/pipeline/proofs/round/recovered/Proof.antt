@@ -1,32 +1,20 @@
-use mathlib.Core.Path.{_≡_, sym, ap, _∙_}
-use native.Mathlib.Nat.{add-zero}
+use Prim.Native.Nat.{ℕ, _+_}
+use mathlib.Core.Path.{ap}
 use native.Mathlib.Omega.{arith}
 use borrow.Author.Needs.{needs}
-use Rattle.phy.specs.declared.packet.Piggyback.{Piggyback}
-use Rattle.pipeline.specs.declared.carry.Carry.{Carry}
-use Rattle.pipeline.specs.View.{replaced, withPiggyback}
+use Rattle.pipeline.specs.View.{withPiggyback}
+use Rattle.pipeline.proofs.Sharing.{one-at-most}
 use Rattle.pipeline.proofs.round.recovered.Statement.{statement}
 use Rattle.pipeline.proofs.round.recovered.Tie as tie
 
-none-is : (y : Carry) → replaced Piggyback.None y ≡ y
-none-is y = λ i. withPiggyback (y .piggyback) (add-zero (y .piggybacks) i) y
-
-enum-told : tie.Need-enum-told
-enum-told c = search needs
-
-enum-known-recovery : tie.Need-enum-known-recovery
-enum-known-recovery c = search needs
-
-add-t8 : tie.Need-add-t8
-add-t8 c = omega arith
+add-counted : tie.Need-add-counted
+add-counted c = omega (arith, c .before .one-piggyback .ensures, one-at-most (c .before .before .before .args .recovery))
 
 returns : tie.Need-returns
 returns c =
-    let y = c .before .before .args .y in
-    sym (ap (λ (p : Piggyback). replaced p y) (c .enum-told .given .1) ∙ none-is y)
-
-returns-2 : tie.Need-returns-2
-returns-2 c = sym (ap (λ (p : Piggyback). replaced p (c .before .before .before .before .before .args .y)) (c .before .before .before .recovery .given .1))
+    let counted = c .before .before in
+    let y = counted .before .before .args .y in
+    λ i. withPiggyback (c .latest .ensures i) (ap (λ (m : ℕ). y .piggybacks + m) (counted .one-piggyback .ensures) i) y
 
 pub recovered-spec : {M : Type 1} → statement M
-recovered-spec = tie.close (tie.spec enum-told enum-known-recovery add-t8 returns returns-2)
+recovered-spec = tie.close (tie.spec (λ c κs. search needs) add-counted (λ c κs. search needs) returns)

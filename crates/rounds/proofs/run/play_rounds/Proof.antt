@@ -1,8 +1,8 @@
 use Prim.Native.Nat.{_-_}
-use mathlib.Core.Path.{_≡_, sym, ap, _∙_}
+use mathlib.Core.Path.{_≡_, sym, _∙_}
 use native.Mathlib.Omega.{arith}
 use denote.Ref.{now}
-use lib.ListN.{length, length-replicate}
+use lib.ListN.{length}
 use Rattle.rounds.specs.Going.{workspace, Underway}
 use Rattle.rounds.proofs.Underway.{underway-new, used-up, at-limit, at-end, at-last, goes-on, kept-all, same-size, same-table}
 use Rattle.rounds.proofs.run.play_rounds.Statement.{statement}
@@ -41,7 +41,7 @@ loop-holds c =
 -- the table of states is as long as it was
 states-size : (c : tie.At-loop Inv-loop μ-loop) → length (c .loop .states) ≡ length (now (start c .args .states))
 states-size c =
-    c .loop .inv .going .steady .sharing .kept .room ∙ sym (ap length (start c .pre .begins .no-state) ∙ length-replicate _ 0)
+    c .loop .inv .going .steady .sharing .kept .room ∙ sym (start c .pre .begins .cleared .room)
 
 same-length : tie.Need-same-length Inv-loop μ-loop
 same-length c = states-size (c .before .before .before .before)

@@ -2,6 +2,7 @@ use native.Mathlib.Omega.{arith}
 use borrow.Author.Needs.{needs}
 use denote.Ref.{now}
 use Rattle.pipeline.proofs.Recordings.{records-few}
+use Rattle.rounds.proofs.Beginning.{zeros-cleared}
 use Rattle.rounds.proofs.Underway.{kept-all}
 use Rattle.sim.proofs.Filled.{finishes}
 use Rattle.sim.proofs.outcome.run_over.Statement.{statement}
@@ -10,6 +11,12 @@ use Rattle.sim.proofs.outcome.run_over.Tie as tie
 -- the start, from where the run was played
 abbrev start : tie.After-play → tie.Start
 start c = c .before .before .before .before .before .before .before .before .before
+
+play-requires : tie.Need-play-requires
+play-requires c κs =
+    let s = c .before .before .before .before .before .before .before .before in
+    let ok = s .pre .0 .accepted in
+    record { accepted = ok; few = omega (arith, ok .proposals); cleared = zeros-cleared (s .args .plan .nodes) (s .pre .1) }
 
 write-logs-requires : tie.Need-write-logs-requires
 write-logs-requires c κs =
@@ -39,5 +46,5 @@ pub run-over-spec : {M : Type 1} → statement M
 run-over-spec =
     tie.close
     (tie.spec
-    (λ c. search needs) (λ c κs. search needs) write-logs-requires write-records-requires summary-of-requires
+    (λ c. search needs) play-requires write-logs-requires write-records-requires summary-of-requires
     (λ c. search needs) (λ c. search needs) (λ c. search needs) (λ c. search needs) returns)
