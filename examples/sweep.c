@@ -4,8 +4,9 @@
  * Its words are the first seed, how many seeds, and the words of ./ctsim's line but for the seed:
  * topology, first, second, repeats, round slots or -, loss as 16 hexadecimal digits, proposals, interval
  * and limit. Seeds count up by 1; behind the greatest comes 0. For each seed, in this order, it prints a
- * line: rounds, slots, listen, flood, sleep, records, and the number of the run's end. How far it is goes
- * to standard error. -j says how many threads work; else as many as there are processors.
+ * line: rounds, slots, listen, flood, sleep, records, and the number of the run's end. Its progress goes
+ * to standard error. -j says how many threads work; else as many as there are processors. Status 0: done;
+ * 1: refused, or not every byte was written; 2: wrong words.
  *
  * Threads take chunks of seeds, one after the other, and sweep each with one call. A chunk's lines wait
  * in a ring until the main thread prints them, in order. So the lines are the same for any number of

@@ -303,9 +303,9 @@ uint64_t ctsim_read_packet(const uint8_t *text, size_t text_length,
 
 /*
  * Runs a topology once with each of these seeds, and writes a line of seven numbers for each run.
- * Line i is that of seeds[i], whichever seeds stand before and behind it: what ctsim_run_topology
- * writes to the summary of that seed's run. The network is built and measured once, and no log,
- * record or snapshot is written.
+ * Line i is that of seeds[i], whichever seeds stand before and behind it: seven of the numbers that
+ * ctsim_run_topology writes to the summary for that seed. The network is built and measured once, and
+ * no log, record or snapshot is written.
  *   topology to limit  as for ctsim_run_topology, without the seed; interval is tested, and changes
  *                      no number
  *   seeds              at most 65,536; any numbers, equal ones too. None: no line is written

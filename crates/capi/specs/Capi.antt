@@ -1,4 +1,4 @@
--- What each entry for C returns, and the final contents of the lent slices (rules 7.5 to 7.7, 9.4, 12.7 and 15.9). The result is 0 or the refusal's
+-- What each entry for C returns, and the final contents of the lent slices (rules 7.5 to 7.8, 9.4, 12.7 and 15.9). The result is 0 or the refusal's
 -- number; a refusal leaves every slice as it was. `short` is these entries' own and asked first: has the slice of a summary, of a packet
 -- or of a single result its places?
 use Prim.Native.Nat.{ℕ, _≤_}

@@ -90,10 +90,14 @@ pub record AllKept (c n : ℕ) (b : List ℕ) : Type 0 where
   pub room : length b ≡ tableSize n
   pub each : (j : ℕ) → j < n → Kept c b (firstOf j)
 
--- The tables before the first round of n nodes: no node has a term, and no proposal was made.
-pub record Cleared (n : ℕ) (b t : List ℕ) : Type 0 where
+-- the first n nodes have no term
+abbrev pub NoTerms : ℕ → List ℕ → Type 0
+NoTerms n b = (j : ℕ) → j < n → NoTerm b (firstOf j)
+
+-- The tables before the first round of n nodes: no node has a term, and no proposal was made. What else stands in them is not looked at.
+pub record Blank (n : ℕ) (b t : List ℕ) : Type 0 where
   pub room : length b ≡ tableSize n
-  pub each : (j : ℕ) → j < n → NoTerm b (firstOf j)
+  pub each : NoTerms n b
   pub started : Started 0 t
 
 -- ---- what the rounds carry: x with the table b of states and the history t

@@ -1,9 +1,11 @@
 // Answers every line of its input as the Rust source does. The first 71 lines put each question
 // on both sides of its boundary; the next 664 were chosen among those of `oracle/`'s program
 // `inputs` (small, random and broken), so that each end, lossy runs, NACKs, piggybacks, graphs given
-// by rows and refusals are among them; four are at edges that those miss. The
-// rest ask for one round: 12 of the printed run and about it, 350 chosen likewise among those of
-// `inputs previews`, and the rounds of the worked example of docs/RULES.md. `stdout` is what `oracle/`'s program `answer` prints for `stdin`.
+// by rows and refusals are among them; four are at edges that those miss. The next 368 ask for one
+// round: 12 of the printed run and about it, 350 chosen likewise among those of `inputs previews`, and
+// the rounds of the worked example of docs/RULES.md. The last 131 are sweeps: 41 put the questions and
+// the lengths, and 90 are those of `inputs sweeps 5 90`. `stdout` is what `oracle/`'s program `answer`
+// prints for `stdin`.
 mod rounds_shown;
 mod sweeps_shown;
 

@@ -29,7 +29,7 @@ use Rattle.protocol.specs.Paxos.{empty}
 use Rattle.protocol.proofs.Frame.{first-view, first-kept, zeros, zeros-no-term}
 use Rattle.pipeline.specs.declared.carry.Carry.{Carry}
 use Rattle.pipeline.specs.Round.{recorded}
-use Rattle.pipeline.specs.View.{fewNodes, someNodes, historySize, Cleared, Recording, Sharing, statesOf, recordsOf, sharedOf, tableSize}
+use Rattle.pipeline.specs.View.{fewNodes, someNodes, historySize, Blank, Recording, Sharing, statesOf, recordsOf, sharedOf, tableSize}
 use Rattle.rules.specs.Run.{Given, begin}
 use Rattle.rules.proofs.Sums.{sum-new}
 use Rattle.rounds.specs.Going.{NewRadios, NewRun}
@@ -113,10 +113,10 @@ table-fits n few = go (two (leb n fewNodes)) (two (leb n someNodes))
     go (inr e) (inl w) = rw (e, w) (omega (arith, leb-true n someNodes w))
     go (inr e) (inr w) = rw (e, w) (omega (arith, few))
 
--- tables of zeros are cleared
-pub zeros-cleared : (n : ℕ) {b : List ℕ} → b ≡ replicate (tableSize n) 0 → Cleared n b (replicate historySize 0)
-zeros-cleared n e =
-    subst⁻¹ (λ (b : List ℕ). Cleared n b (replicate historySize 0)) e
+-- tables of zeros are blank
+pub zeros-blank : (n : ℕ) {b : List ℕ} → b ≡ replicate (tableSize n) 0 → Blank n b (replicate historySize 0)
+zeros-blank n e =
+    subst⁻¹ (λ (b : List ℕ). Blank n b (replicate historySize 0)) e
     (record {
       room = length-replicate (tableSize n) 0;
       each = λ j h. zeros-no-term (tableSize n) (firstOf j);
@@ -127,16 +127,16 @@ module _ (n : ℕ) (few : n ≤ maxNodes) where
   abbrev newCarry : Carry
   newCarry = record { counter = 0; recorded = record { count = 0; terms = 0 }; piggyback = Piggyback.None; nacks = 0; piggybacks = 0 }
 
-  module _ {b t : List ℕ} (cleared : Cleared n b t) where
+  module _ {b t : List ℕ} (blank : Blank n b t) where
     recording : Recording (newCarry .recorded) t
     unfolding recordsOf recorded tabulate
-    recording = record { room = cleared .started .room; few = sym (count-none maxTerms (has 0) (λ t h. has-zero t)); known = λ t h. has-zero t }
+    recording = record { room = blank .started .room; few = sym (count-none maxTerms (has 0) (λ t h. has-zero t)); known = λ t h. has-zero t }
 
     states-new : statesOf n b ≡ replicate n empty
     unfolding statesOf
     states-new =
         sym (is-tabulate n _ empty (replicate n empty) (length-replicate n empty)
-        (λ j h. getD-replicate n j empty empty h ∙ sym (first-view (cleared .each j h))))
+        (λ j h. getD-replicate n j empty empty h ∙ sym (first-view (blank .each j h))))
 
     new-shared : (g : Given) → g .nodes ≡ n → sharedOf n newCarry b t ≡ begin g .shared
     unfolding sharedOf recordsOf tabulate
@@ -154,8 +154,8 @@ module _ (n : ℕ) (few : n ≤ maxNodes) where
     new-sharing =
         record {
           few = omega arith;
-          kept = record { room = cleared .room; each = λ j h. first-kept (cleared .each j h) (omega (arith, h, cleared .room, table-fits n few)) };
-          started = cleared .started;
+          kept = record { room = blank .room; each = λ j h. first-kept (blank .each j h) (omega (arith, h, blank .room, table-fits n few)) };
+          started = blank .started;
           recording = recording;
           back = tt;
         }
@@ -164,8 +164,8 @@ module _ (n : ℕ) (few : n ≤ maxNodes) where
   new-run f =
       record {
         flood = f;
-        shared = λ g b t e cleared. new-shared cleared g e;
-        sharing = λ b t cleared. new-sharing cleared;
+        shared = λ g b t e blank. new-shared blank g e;
+        sharing = λ b t blank. new-sharing blank;
         took-part = refl;
         progress = refl;
         nacks = refl;

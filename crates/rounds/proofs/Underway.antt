@@ -91,12 +91,12 @@ underway-new graph p most x w can new =
       going = record {
         shows = record {
           standing = new .flood .stands g (w .snapshots) refl;
-          shared = new .shared g (w .states) (w .history) refl (can .begins .cleared);
+          shared = new .shared g (w .states) (w .history) refl (can .begins .blank);
           took-part = new .took-part;
         };
         steady = record {
           sound = new .flood .sound (settingsOf p 0) refl (ok .repeats-low) (ok .repeats-high) (ok .interval);
-          sharing = new .sharing (w .states) (w .history) (can .begins .cleared);
+          sharing = new .sharing (w .states) (w .history) (can .begins .blank);
           source = subst⁻¹ (λ (k : ℕ). Source (c .«loss_rate») (g .heard) k (w .stream)) (new .flood .untried)
               (source-begins (c .«loss_rate») (c .seed) (w .stream) (can .stream));
           room = can .room;

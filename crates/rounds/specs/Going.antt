@@ -12,7 +12,7 @@ use Rattle.phy.specs.declared.slot.Settings.{Settings}
 use Rattle.phy.specs.declared.slot.Radios.{Radios}
 use Rattle.phy.specs.View.{Tables, tables, Sound, Stands}
 use Rattle.pipeline.specs.Round.{shortestLog}
-use Rattle.pipeline.specs.View.{AllKept, Cleared, statesOf, Sharing, sharedOf}
+use Rattle.pipeline.specs.View.{AllKept, Blank, statesOf, Sharing, sharedOf}
 use Rattle.rules.specs.Accepted.{Accepted}
 use Rattle.rules.specs.Entries.{givenAs}
 use Rattle.rules.specs.Answers.{seenRound}
@@ -116,11 +116,11 @@ pub record Surveys (n proposals : ℕ) (states : List ℕ) (r : Surveyed) : Type
 
 -- ---- the rounds
 
--- at most so many rounds can be played over tables that are cleared
+-- at most so many rounds can be played over tables that are blank
 pub record CanStart (graph : List ℕ) (p : Plan) (most : ℕ) (states history : List ℕ) : Type 0 where
   pub accepted : Accepted (planned graph p)
   pub few : most ≤ mostRounds maxTerms
-  pub cleared : Cleared (p .nodes) states history
+  pub blank : Blank (p .nodes) states history
 
 -- and so with the other tables
 pub record CanGo (graph : List ℕ) (p : Plan) (most : ℕ) (w : Workspace) : Type 0 where
@@ -167,8 +167,8 @@ pub record NewRadios (n : ℕ) (x : Radios) : Type 0 where
 -- a run before the first round
 pub record NewRun (n : ℕ) (x : Run) : Type 0 where
   pub flood : NewRadios n (x .flood)
-  pub shared : (g : Given) (b t : List ℕ) → g .nodes ≡ n → Cleared n b t → sharedOf n (x .carry) b t ≡ begin g .shared
-  pub sharing : (b t : List ℕ) → Cleared n b t → Sharing n (x .carry) b t
+  pub shared : (g : Given) (b t : List ℕ) → g .nodes ≡ n → Blank n b t → sharedOf n (x .carry) b t ≡ begin g .shared
+  pub sharing : (b t : List ℕ) → Blank n b t → Sharing n (x .carry) b t
   pub took-part : x .«took_part» ≡ 0
   pub progress : x .progress ≡ 0
   pub nacks : x .carry .nacks ≡ 0

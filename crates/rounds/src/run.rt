@@ -258,7 +258,7 @@ fn play_rounds(
     }
 }
 
-// Plays at most so many rounds, over Paxos states and a history that are cleared.
+// Plays at most so many rounds, over Paxos states and a history that are blank.
 pub fn play(
     graph: &[u64; MAX_NODES],
     plan: Plan,

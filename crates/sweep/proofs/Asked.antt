@@ -52,4 +52,4 @@ module _ (q : RowsOrTopology) (c : Config) (seeds table : List ℕ) where
       → Sweeps graph (record { nodes = n; diameter = d; config = c }) seeds table rounds after → _≡_ {A = Sweep × List ℕ} (Swept rounds, after) (sweepFor q c seeds table)
   swept-asked {graph} {n} {d} found e done =
       let same : summaryWith graph (record { nodes = n; diameter = d; config = c }) ≡ summaryFor q c = λ i seed. summaryIn (found .given (withSeed c seed) i) in
-      (λ i. (Swept (done .rounds i), done .lines i)) ∙ ap (λ (f : ℕ → Summary). swept (map f seeds) table) same ∙ unrefused e
+      (λ i. (Swept (done .sum i), done .lines i)) ∙ ap (λ (f : ℕ → Summary). swept (map f seeds) table) same ∙ unrefused e

@@ -1,4 +1,4 @@
--- The tables of a run, cleared one place after the other. Assumes nothing.
+-- The tables of a run, blank one place after the other. Assumes nothing.
 use Prim.Native.Nat.{ℕ, zero, suc, _+_}
 use mathlib.Core.Path.{_≡_, refl, _∙_}
 use mathlib.Core.List.{List, [], _∷_}
@@ -11,8 +11,7 @@ use lib.Seq.{getD-set-other}
 use Rattle.protocol.specs.Layout.{pendingPlace, loggedPlace, lastPlace, firstOf}
 use Rattle.protocol.specs.View.{NoTerm, Wrote}
 use Rattle.protocol.proofs.Frame.{wrote-then, wrote-set}
-use Rattle.pipeline.specs.View.{Started}
-use Rattle.sweep.specs.Working.{NoTerms}
+use Rattle.pipeline.specs.View.{Started, NoTerms}
 
 -- a place that is set to 0 reads 0, and so does one past the end
 at-zero : (l : List ℕ) (i : ℕ) → getD (set l i 0) i 0 ≡ 0

@@ -21,7 +21,7 @@ use Rattle.rules.proofs.FirstRounds.{few-rounds}
 use Rattle.sweep.specs.declared.Sweep.{Sweep}
 use Rattle.sweep.specs.declared.Sweep.the-variants.{Swept, Refused}
 use Rattle.sweep.specs.Sweep.{sweptSize, withSeed, summaryIn, summaryFor, sweptLines, roundsOf, tableQuestions, sweepQuestions, sweepRefusalFor, sweptUnless, sweepFor}
-use Rattle.sweep.specs.Laws.{roundsShown, AllSwept, LinesAlone, NoSeeds, RefusalsSwept}
+use Rattle.sweep.specs.Laws.{roundsShown, AllSwept, LinesAlone, OwnSeedUnused, NoSeeds, RefusalsSwept}
 use Rattle.sweep.proofs.Asked.{table-facts, network-refuses, network-passes, refused}
 use Rattle.sweep.proofs.Lines.{length-lines, line-at, rounds-shown, rounds-most}
 
@@ -65,6 +65,10 @@ all-swept q c seeds table rounds after e =
 pub lines-alone : LinesAlone
 lines-alone q c seeds table rounds after seeds' table' rounds' after' e e' i j seed at at' =
     all-swept q c seeds table rounds after e .lines i seed at ∙ sym (all-swept q c seeds' table' rounds' after' e' .lines j seed at')
+
+pub own-seed-unused : OwnSeedUnused
+unfolding sweepFor sweepRefusalFor
+own-seed-unused q c own seeds table = refl
 
 pub no-seeds : NoSeeds
 unfolding sweepFor sweepRefusalFor refusalFor sweptLines roundsOf

@@ -11,7 +11,7 @@ use lib.Seq.{sets, length-sets, length-take-le, take-all, take-suc, drop-drop}
 use Rattle.config.specs.Limits.{maxTerms, mostRounds}
 use Rattle.metrics.specs.declared.summary.Summary.{Summary}
 use Rattle.phy.proofs.Snapshots.{sets-append}
-use Rattle.pipeline.specs.View.{Cleared}
+use Rattle.pipeline.specs.View.{Blank}
 use Rattle.rounds.specs.declared.run.Plan.{Plan}
 use Rattle.sweep.specs.Sweep.{sweptSize, sweptLine, sweptLines, roundsOf}
 use Rattle.sweep.specs.Working.{summaryWith, Sweeps, SweptTo}
@@ -46,14 +46,14 @@ length-lines f (x ∷ seeds) = omega (arith, length-lines f seeds)
 -- ---- what is swept so far
 
 module _ {graph : List ℕ} {p : Plan} {seeds table : List ℕ} where
-  pub swept-none : {states history : List ℕ} → Cleared (p .nodes) states history → SweptTo graph p seeds table 0 0 states history table
+  pub swept-none : {states history : List ℕ} → Blank (p .nodes) states history → SweptTo graph p seeds table 0 0 states history table
   unfolding roundsOf sweptLines
-  swept-none cleared = record { within = omega arith; few = omega arith; sweeps = record { rounds = refl; lines = refl }; cleared = cleared }
+  swept-none blank = record { within = omega arith; few = omega arith; sweeps = record { sum = refl; lines = refl }; blank = blank }
 
   pub swept-more : {i rounds : ℕ} {states history table' states' history' table'' : List ℕ} {s : Summary} → SweptTo graph p seeds table i rounds states history table' → i < length seeds
-      → s ≡ summaryWith graph p (getD seeds i 0) → s .rounds ≤ mostRounds maxTerms → Cleared (p .nodes) states' history' → table'' ≡ sets table' (sweptSize * i) (sweptLine s)
+      → s ≡ summaryWith graph p (getD seeds i 0) → s .rounds ≤ mostRounds maxTerms → Blank (p .nodes) states' history' → table'' ≡ sets table' (sweptSize * i) (sweptLine s)
       → SweptTo graph p seeds table (i + 1) (rounds + s .rounds) states' history' table''
-  swept-more {i} {rounds} {states} {history} {table'} {states'} {history'} {table''} {s} done h e few cleared put =
+  swept-more {i} {rounds} {states} {history} {table'} {states'} {history'} {table''} {s} done h e few blank put =
       let f = summaryWith graph p in
       let runs = map f (take i seeds) in
       let more : map f (take (i + 1) seeds) ≡ runs ++ (s ∷ []) = runs-more f seeds i h ∙ ap (λ (x : Summary). runs ++ (x ∷ [])) (sym e) in
@@ -62,14 +62,14 @@ module _ {graph : List ℕ} {p : Plan} {seeds table : List ℕ} where
         within = omega arith;
         few = omega (arith, done .few, few);
         sweeps = record {
-          rounds = ap (λ (m : ℕ). m + s .rounds) (done .sweeps .rounds) ∙ sym (ap roundsOf more ∙ rounds-snoc runs s);
+          sum = ap (λ (m : ℕ). m + s .rounds) (done .sweeps .sum) ∙ sym (ap roundsOf more ∙ rounds-snoc runs s);
           lines =
               put
               ∙ ap₂ (λ (l : List ℕ) (k : ℕ). sets l k (sweptLine s)) (done .sweeps .lines) place
               ∙ sym (sets-append table 0 (sweptLines runs) (sweptLine s))
               ∙ sym (ap (λ (l : List Summary). sets table 0 (sweptLines l)) more ∙ ap (sets table 0) (lines-snoc runs s));
         };
-        cleared = cleared;
+        blank = blank;
       }
 
   -- the table is as long as it was

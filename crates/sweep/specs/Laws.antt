@@ -55,6 +55,11 @@ LinesAlone =
     WasSwept q c seeds' table' rounds' after' →
     (i j seed : ℕ) → getElem? seeds i ≡ some seed → getElem? seeds' j ≡ some seed → sweptLineIn after i ≡ sweptLineIn after' j
 
+-- the configuration's own seed is not used
+abbrev pub OwnSeedUnused : Type 0
+OwnSeedUnused =
+    (q : RowsOrTopology) (c : Config) (own : ℕ) (seeds table : List ℕ) → _≡_ {A = Sweep × List ℕ} (sweepFor q (withSeed c own) seeds table) (sweepFor q c seeds table)
+
 -- a sweep of no seed: no line, and 0 rounds
 abbrev pub NoSeeds : Type 0
 NoSeeds = (q : RowsOrTopology) (c : Config) (table : List ℕ) → refusalFor q c ≡ none → WasSwept q c [] table 0 table

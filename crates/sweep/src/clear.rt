@@ -11,13 +11,12 @@ ghost use lib.ListN.{length};
 ghost use Rattle.config.specs.Limits.{maxNodes, maxTerms};
 ghost use Rattle.protocol.specs.Layout.{nodeSize};
 ghost use Rattle.protocol.specs.View.{NoTerm, Wrote};
-ghost use Rattle.pipeline.specs.View.{Started};
-ghost use Rattle.sweep.specs.Working.{NoTerms};
+ghost use Rattle.pipeline.specs.View.{Started, NoTerms};
 
 // The node whose numbers begin at `at` has no term any more. Its other numbers are then not looked at.
 fn clear_state(states: &mut [u64], at: usize)
     requires { ⌜ at + nodeSize ≤ length (now states) ⌝ }
-    ensures { λ _. ⌜ Wrote at (now (states .entry)) (now (states .exit)) × NoTerm (now (states .exit)) at ⌝ }
+    ensures { λ _. ⌜ NoTerm (now (states .exit)) at × Wrote at (now (states .entry)) (now (states .exit)) ⌝ }
 {
     states[at + PENDING_PLACE] = 0;
     states[at + LOGGED_PLACE] = 0;

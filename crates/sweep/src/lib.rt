@@ -27,7 +27,7 @@ ghost use mathlib.Core.List.{List};
 ghost use lib.ListN.{length, replicate};
 ghost use lib.Seq.{sets};
 ghost use Rattle.network.specs.Questions.{firstNo};
-ghost use Rattle.pipeline.specs.View.{Cleared, tableSize};
+ghost use Rattle.pipeline.specs.View.{Blank, tableSize};
 ghost use Rattle.rules.specs.Accepted.{Accepted};
 ghost use Rattle.rules.specs.Answers.{refusalOf};
 ghost use Rattle.rules.specs.Networks.{RowsOrTopology, ofRows, ofTopology, network, networkFor, AskedFor};
@@ -72,7 +72,7 @@ fn plan_with(plan: Plan, seed: u64) -> Plan
     }
 }
 
-// Writes a run's line from the place `at` on.
+// Writes a run's line from the place `at` on, in the order of `sweptLine`.
 fn put_swept_line(table: &mut [u64], at: usize, summary: Summary)
     requires { ⌜ at + sweptSize ≤ length (now table) ⌝ }
     ensures { λ _. ⌜ now (table .exit) ≡ sets (now (table .entry)) at (sweptLine summary) ⌝ }
@@ -86,7 +86,7 @@ fn put_swept_line(table: &mut [u64], at: usize, summary: Summary)
     table[at + 6] = summary.ended;
 }
 
-// The run of one seed over cleared tables, which are cleared again behind it, as far as it wrote. Its summary.
+// The run of one seed over blank tables, which are cleared for the next, as far as it wrote. Its summary.
 fn run_seed(
     graph: &[u64; MAX_NODES],
     plan: Plan,
@@ -94,7 +94,7 @@ fn run_seed(
     states: &mut [u64],
     history: &mut [u64; HISTORY_SIZE],
 ) -> Summary
-    requires { ⌜ Accepted (planned (now graph) plan) × Cleared (plan .nodes) (now states) (now history) ⌝ }
+    requires { ⌜ Accepted (planned (now graph) plan) × Blank (plan .nodes) (now states) (now history) ⌝ }
     ensures { λ r. ⌜ RunsSeed (now (graph .entry)) plan seed r (now (states .exit)) (now (history .exit)) ⌝ }
 {
     let most = plan.config.num_proposals + ENOUGH_ROUNDS;
@@ -112,7 +112,7 @@ fn run_seed(
     summary_of(stopped, plan.nodes)
 }
 
-// The runs of all seeds, each with its line, over cleared tables. The sum of their rounds.
+// The runs of all seeds, each with its line. The sum of their rounds.
 fn sweep_over(
     graph: &[u64; MAX_NODES],
     plan: Plan,

@@ -3,7 +3,7 @@ use borrow.Author.Needs.{needs}
 use native.Mathlib.Omega.{arith}
 use denote.Ref.{now}
 use Rattle.rounds.specs.Going.{planned}
-use Rattle.rounds.proofs.Beginning.{zeros-cleared}
+use Rattle.rounds.proofs.Beginning.{zeros-blank}
 use Rattle.preview.proofs.Seen.{ofLast, from-last}
 use Rattle.preview.proofs.preview_over.Statement.{statement}
 use Rattle.preview.proofs.preview_over.Tie as tie
@@ -16,7 +16,7 @@ play-requires : tie.Need-play-requires
 play-requires c κs =
     let s = c .before .before .before .before in
     let ok = s .pre .0 in
-    record { accepted = ok; few = omega (arith, s .pre .1, ok .proposals); cleared = zeros-cleared (s .args .plan .nodes) (s .pre .2) }
+    record { accepted = ok; few = omega (arith, s .pre .1, ok .proposals); blank = zeros-blank (s .args .plan .nodes) (s .pre .2) }
 
 returns : tie.Need-returns
 returns c =

@@ -2,7 +2,7 @@ use Prim.Native.Nat.{_-_}
 use mathlib.Core.Path.{sym, ap, _∙_}
 use native.Mathlib.Omega.{arith}
 use lib.ListN.{length, length-replicate}
-use Rattle.rounds.proofs.Beginning.{zeros-cleared}
+use Rattle.rounds.proofs.Beginning.{zeros-blank}
 use Rattle.sweep.specs.Working.{SweptTo}
 use Rattle.sweep.proofs.Lines.{swept-none, swept-more, swept-size, swept-all}
 use Rattle.sweep.proofs.sweep_over.Statement.{statement}
@@ -19,7 +19,7 @@ abbrev start : tie.At-loop Inv-loop μ-loop → tie.Start Inv-loop μ-loop
 start c = c .before .before .before .before
 
 loop-holds : tie.Need-loop-holds Inv-loop μ-loop
-loop-holds c = let s = c .before .before .before in swept-none (zeros-cleared (s .args .plan .nodes) (s .pre .1))
+loop-holds c = let s = c .before .before .before in swept-none (zeros-blank (s .args .plan .nodes) (s .pre .1))
 
 mul-run-seed : tie.Need-mul-run-seed Inv-loop μ-loop
 mul-run-seed c = omega (arith, start (c .before) .pre .0 .few)
@@ -28,7 +28,7 @@ shared-slice-read-run-seed : tie.Need-shared-slice-read-run-seed Inv-loop μ-loo
 shared-slice-read-run-seed c = omega arith
 
 run-seed-requires : tie.Need-run-seed-requires Inv-loop μ-loop
-run-seed-requires c κs = let at = c .before .before .before .before in (start at .pre .0 .accepted, at .loop .inv .cleared)
+run-seed-requires c κs = let at = c .before .before .before .before in (start at .pre .0 .accepted, at .loop .inv .blank)
 
 mul-put-swept-line : tie.Need-mul-put-swept-line Inv-loop μ-loop
 mul-put-swept-line c = let at = c .before .before .before .before .before .before .before .before in omega (arith, start at .pre .0 .few)
@@ -42,10 +42,10 @@ add-rounds c = let at = c .before .before .before .before .before .before .befor
 loop-again : tie.Need-loop-again Inv-loop μ-loop
 loop-again c =
     let ran = c .before .before .before .before .before .before .before .run-seed .ensures in
-    swept-more (c .before .before .before .before .before .before .before .before .before .before .before .before .loop .inv) (omega arith) (ran .summary) (ran .few) (ran .cleared) (c .before .before .before .put-swept-line .ensures)
+    swept-more (c .before .before .before .before .before .before .before .before .before .before .before .before .loop .inv) (omega arith) (ran .summary) (ran .few) (ran .blank) (c .before .before .before .put-swept-line .ensures)
 
 same-length : tie.Need-same-length Inv-loop μ-loop
-same-length c = let at = c .before in at .loop .inv .cleared .room ∙ sym (ap length (start at .pre .1) ∙ length-replicate _ 0)
+same-length c = let at = c .before in at .loop .inv .blank .room ∙ sym (ap length (start at .pre .1) ∙ length-replicate _ 0)
 
 same-length-2 : tie.Need-same-length-2 Inv-loop μ-loop
 same-length-2 c = swept-size (c .before .loop .inv)

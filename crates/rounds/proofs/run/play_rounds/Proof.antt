@@ -41,7 +41,7 @@ loop-holds c =
 -- the table of states is as long as it was
 states-size : (c : tie.At-loop Inv-loop μ-loop) → length (c .loop .states) ≡ length (now (start c .args .states))
 states-size c =
-    c .loop .inv .going .steady .sharing .kept .room ∙ sym (start c .pre .begins .cleared .room)
+    c .loop .inv .going .steady .sharing .kept .room ∙ sym (start c .pre .begins .blank .room)
 
 same-length : tie.Need-same-length Inv-loop μ-loop
 same-length c = states-size (c .before .before .before .before)

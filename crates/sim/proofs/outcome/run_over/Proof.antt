@@ -2,7 +2,7 @@ use native.Mathlib.Omega.{arith}
 use borrow.Author.Needs.{needs}
 use denote.Ref.{now}
 use Rattle.pipeline.proofs.Recordings.{records-few}
-use Rattle.rounds.proofs.Beginning.{zeros-cleared}
+use Rattle.rounds.proofs.Beginning.{zeros-blank}
 use Rattle.rounds.proofs.Underway.{kept-all}
 use Rattle.sim.proofs.Filled.{finishes}
 use Rattle.sim.proofs.outcome.run_over.Statement.{statement}
@@ -16,7 +16,7 @@ play-requires : tie.Need-play-requires
 play-requires c κs =
     let s = c .before .before .before .before .before .before .before .before in
     let ok = s .pre .0 .accepted in
-    record { accepted = ok; few = omega (arith, ok .proposals); cleared = zeros-cleared (s .args .plan .nodes) (s .pre .1) }
+    record { accepted = ok; few = omega (arith, ok .proposals); blank = zeros-blank (s .args .plan .nodes) (s .pre .1) }
 
 write-logs-requires : tie.Need-write-logs-requires
 write-logs-requires c κs =

@@ -13,7 +13,7 @@ slice-write-states-3 : tie.Need-slice-write-states-3
 slice-write-states-3 c = simp length-set (omega arith)
 
 returns : tie.Need-returns
-returns c = let a = c .args in (wrote-node (now (a .states)) (a .at), no-term (now (a .states)) (a .at))
+returns c = let a = c .args in (no-term (now (a .states)) (a .at), wrote-node (now (a .states)) (a .at))
 
 pub clear-state-spec : {M : Type 1} → statement M
 clear-state-spec =

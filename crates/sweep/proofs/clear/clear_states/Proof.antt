@@ -3,7 +3,7 @@ use mathlib.Core.Path.{_≡_, refl, subst, _∙_}
 use native.Mathlib.Omega.{arith}
 use lib.ListN.{length}
 use Rattle.protocol.specs.View.{NoTerm, Wrote}
-use Rattle.sweep.specs.Working.{NoTerms}
+use Rattle.pipeline.specs.View.{NoTerms}
 use Rattle.sweep.proofs.Clears.{no-terms-more}
 use Rattle.sweep.proofs.clear.clear_states.Statement.{statement}
 use Rattle.sweep.proofs.clear.clear_states.Tie as tie
@@ -27,8 +27,8 @@ loop-again : tie.Need-loop-again Inv-loop μ-loop
 loop-again c =
     let done = c .before .before in
     let l = done .before .before .before .before .loop in
-    let wrote = subst (λ (at : ℕ). Wrote at (l .states) (done .clear-state .last .0) × NoTerm (done .clear-state .last .0) at) (done .before .place-of .ensures) (done .clear-state .ensures) in
-    (omega arith, wrote .0 .size ∙ l .inv .1, no-terms-more (l .i) (l .inv .2) (wrote .0) (wrote .1))
+    let wrote = subst (λ (at : ℕ). NoTerm (done .clear-state .last .0) at × Wrote at (l .states) (done .clear-state .last .0)) (done .before .place-of .ensures) (done .clear-state .ensures) in
+    (omega arith, wrote .1 .size ∙ l .inv .1, no-terms-more (l .i) (l .inv .2) (wrote .1) (wrote .0))
 
 same-length : tie.Need-same-length Inv-loop μ-loop
 same-length c = c .before .loop .inv .1
