@@ -5,12 +5,15 @@ use crate::exact::Exact;
 use crate::library::{self, Buffer, Buffers};
 use crate::library::{LOGS_LENGTH, RECORDS_LENGTH, SNAPSHOT_LENGTH, SUMMARY_LENGTH};
 use crate::previews::Previewed;
-use oracle::{Answer, Input, Summary};
+use oracle::{Answer, Input, Summary, Validity};
 use std::fmt::Display;
 
 /// The library's numbers for buffers that are too short.
 const SHORT: u64 = 10;
 const SHORT_SUMMARY: u64 = 100;
+/// Its numbers for the validity of a line that no question refuses, or 16 alone.
+const CURRENT: u64 = 0;
+const OUTDATED: u64 = 16;
 
 pub struct Checked {
     /// Not all snapshots fitted.
@@ -51,6 +54,7 @@ pub fn check(input: &Input, answer: &Answer, number: u64) -> Checked {
         .or_else(|| contents_differ(&expected, &found))
         .or_else(not_exact)
         .or_else(|| short_differs(input, mark, result))
+        .or_else(|| validity_differs(input, mark))
         .or_else(|| previewed.difference.take());
     Checked {
         cut,
@@ -178,4 +182,13 @@ fn short_differs(input: &Input, mark: u64, result: u64) -> Option<String> {
     let returned = library::run(input, mark, &mut found);
     result_differs("result with a short buffer", result, returned)
         .or_else(|| contents_differ(&expected, &found))
+}
+
+fn validity_differs(input: &Input, mark: u64) -> Option<String> {
+    let expected = match input.validity() {
+        Validity::Current => CURRENT,
+        Validity::Outdated => OUTDATED,
+        Validity::Refused(number) => u64::from(number),
+    };
+    result_differs("validity", expected, library::validity(input, mark))
 }

@@ -5,6 +5,7 @@ mod entries;
 use entries::{ctsim_draws, ctsim_read_packet, ctsim_write_packet};
 use entries::{ctsim_preview_rows, ctsim_preview_topology, ctsim_run_rows, ctsim_run_topology};
 use entries::{ctsim_sweep_rows, ctsim_sweep_topology};
+use entries::{ctsim_validity_rows, ctsim_validity_topology};
 use oracle::{Graph, Input};
 
 pub const SUMMARY_LENGTH: usize = 17;
@@ -64,10 +65,11 @@ pub struct WireBuffers {
 
 /// Whether round slots are given, and the round slots. `any` stands for two arguments that may be
 /// any number: that round slots are given, where it is not 0, and round slots that are not given.
+/// These are of any size, so that some would be below the repeats.
 fn round_slots(input: &Input, any: u64) -> (u64, u64) {
     match input.round_slots {
         Some(slots) => (any.max(1), slots),
-        None => (0, any),
+        None => (0, any >> (any % 64)),
     }
 }
 
@@ -269,6 +271,51 @@ fn sweep_rows(
             rounds.places.as_mut_ptr(),
             rounds.lent,
         )
+    }
+}
+
+/// Asks for the validity of the input, and gives back what the entry returns. `any` is for
+/// `round_slots`.
+pub fn validity(input: &Input, any: u64) -> u64 {
+    let (given, round_slots) = round_slots(input, any);
+    let loss = f64::from_bits(input.loss_rate);
+    match &input.graph {
+        // Safety: there is no pointer.
+        Graph::Topology {
+            number,
+            nodes,
+            second,
+        } => unsafe {
+            ctsim_validity_topology(
+                *number,
+                *nodes,
+                *second,
+                input.flood_repeats,
+                given,
+                round_slots,
+                loss,
+                input.seed,
+                input.num_proposals,
+                input.snapshot_interval,
+                input.max_slots,
+            )
+        },
+        // Safety: the pointer is that of a vector with so many places.
+        Graph::Rows { nodes, rows } => unsafe {
+            ctsim_validity_rows(
+                rows.as_ptr(),
+                rows.len(),
+                *nodes,
+                input.flood_repeats,
+                given,
+                round_slots,
+                loss,
+                input.seed,
+                input.num_proposals,
+                input.snapshot_interval,
+                input.max_slots,
+            )
+        },
     }
 }
 

@@ -1,6 +1,7 @@
 //! What a comparison saw.
 
 mod sweeps;
+mod validities;
 mod wire;
 
 use crate::check::Checked;
@@ -10,7 +11,11 @@ use crate::sweeps::CheckedSweep;
 use oracle::{Answer, Graph, Input, Summary, Sweep, Swept};
 use std::fmt;
 use sweeps::Sweeps;
+use validities::Validities;
 use wire::Wire;
+
+/// The questions that refuse a line.
+const QUESTIONS: [usize; 10] = [1, 2, 3, 4, 5, 6, 16, 7, 8, 9];
 
 #[derive(Default)]
 pub struct Tally {
@@ -23,10 +28,11 @@ pub struct Tally {
     nacks: u64,
     piggybacks: u64,
     cut: u64,
-    refused: [u64; 10],
+    refused: [u64; 17],
     exact: u64,
     exact_of_rows: u64,
     exact_above_zero: u64,
+    validities: Validities,
     previews: Previews,
     sweeps: Sweeps,
     wire: Wire,
@@ -70,6 +76,7 @@ impl Tally {
     pub fn add(&mut self, number: u64, input: &Input, answer: &Answer, checked: Checked) {
         self.lines += 1;
         self.library_seconds += checked.seconds;
+        self.validities.add(input);
         self.previews.add(input, answer, &checked.previewed);
         match answer {
             Answer::Refused(refusal) => self.refused[*refusal as usize] += 1,
@@ -167,13 +174,14 @@ impl fmt::Display for Tally {
         writeln!(f, "  with piggybacks {}", self.piggybacks)?;
         writeln!(f, "  whose snapshots did not all fit {}", self.cut)?;
         writeln!(f, "refused {}", self.refused.iter().sum::<u64>())?;
-        for (number, count) in self.refused.iter().enumerate().skip(1) {
-            writeln!(f, "  by {number} {count}")?;
+        for number in QUESTIONS {
+            writeln!(f, "  by {number} {}", self.refused[number])?;
         }
         writeln!(f, "runs that demand 3 fixes {}", self.exact)?;
         writeln!(f, "  of rows {}", self.exact_of_rows)?;
         writeln!(f, "  at a loss rate above 0 {}", self.exact_above_zero)?;
-        write!(f, "{}{}{}", self.previews, self.sweeps, self.wire)?;
+        write!(f, "{}{}", self.validities, self.previews)?;
+        write!(f, "{}{}", self.sweeps, self.wire)?;
         writeln!(f, "processor seconds of ctsim {:.0}", self.ctsim_seconds)?;
         writeln!(f, "  of the library {:.0}", self.library_seconds)?;
         writeln!(f, "  of its previews {:.0}", self.previews.seconds)?;

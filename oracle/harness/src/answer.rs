@@ -111,12 +111,12 @@ pub fn reference_difference(input: &Input) -> Option<String> {
 
 /// ctsim's own run of an accepted input: its metrics and three sums.
 pub fn reference(input: &Input) -> (MetricsCollector, u64, u64, u64) {
-    let graph = graph(input);
+    let graph = network(&input.graph);
     PaxosPipelineSim::new(config(input, graph.num_nodes()), graph).run()
 }
 
 fn wrapped(input: &Input) -> Finished {
-    let graph = graph(input);
+    let graph = network(&input.graph);
     harness::run(config(input, graph.num_nodes()), graph)
 }
 
@@ -155,9 +155,14 @@ fn config(input: &Input, num_nodes: usize) -> SimConfig {
     }
 }
 
+/// ctsim's diameter of an accepted graph.
+pub(crate) fn diameter(graph: &Graph) -> u64 {
+    network(graph).diameter() as u64
+}
+
 /// The Rust's own builders; rows by the child module of `network.rs`.
-fn graph(input: &Input) -> NetworkGraph {
-    match &input.graph {
+fn network(graph: &Graph) -> NetworkGraph {
+    match graph {
         Graph::Rows { nodes, rows } => NetworkGraph::from_rows(&rows[..*nodes as usize]),
         Graph::Topology {
             number,
@@ -263,5 +268,18 @@ mod tests {
         assert_eq!(run(&input), Answer::Refused(5));
         let message = "attempt to subtract with overflow".into();
         assert_eq!(run_unasked(&input), Answer::Panicked(message));
+    }
+
+    /// What 16 refuses: no node reaches sleep.
+    #[test]
+    fn a_round_too_short_is_run_by_the_rust() {
+        let line = b"2 2 0 2 1 0000000000000000 7 1 1 5000";
+        let input = Input::parse(line).expect("readable");
+        assert_eq!(run(&input), Answer::Refused(16));
+        let Answer::Ran(run) = run_unasked(&input) else {
+            panic!("no run");
+        };
+        assert_eq!((run.rounds.len(), run.slots, run.ended), (1003, 1003, 3));
+        assert_eq!((run.listen, run.flood, run.sleep), (1003, 1003, 0));
     }
 }

@@ -1,22 +1,25 @@
 //! Inputs to compare on: a list of small ones, random ones around the limits of
-//! the questions, broken ones, and such lines with a round to preview or with many
-//! seeds; packets and texts of packets.
+//! the questions, broken ones, and such lines with a round to preview, with many
+//! seeds or to be asked for their validity; packets and texts of packets.
 
 mod broken;
 mod packets;
 mod previews;
 mod sweeps;
 mod texts;
+mod validities;
 
-use crate::answer::{run, Answer};
+use crate::answer::{diameter, run, Answer};
 use crate::input::{Graph, Input, GRID, TREE};
 pub use broken::broken;
 pub use packets::{faults, near_packets, packet_lines, packets};
 pub use previews::previews;
 use rand::{RngCore, SeedableRng};
 use rand_chacha::ChaCha8Rng;
+use std::iter::once;
 pub use sweeps::{sweep_lines, sweeps};
 pub use texts::{damaged_texts, damages, Taken};
+pub use validities::validities;
 
 const TOPOLOGIES: [u64; 6] = [1, 2, 3, 4, 5, 6];
 /// 0, minus 0, 5e-324, 2^-53, 0.1, 0.5 and the greatest f64 below 1.
@@ -29,15 +32,16 @@ const LOSS_RATES: [u64; 7] = [
     0x3fe0_0000_0000_0000,
     0x3fef_ffff_ffff_ffff,
 ];
+const MAX_ROUND_SLOTS: u64 = 4096;
 const ONE: u64 = 0x3ff0_0000_0000_0000;
 
-/// Every graph up to 4 nodes with small values of the rest.
+/// Every graph up to 4 nodes with small values of the rest, round slots below the repeats among them.
 pub fn small() -> impl Iterator<Item = Input> {
     let half = 0.5f64.to_bits();
     small_graphs().into_iter().flat_map(move |graph| {
         let mut inputs = Vec::new();
         for flood_repeats in 1..=3 {
-            for round_slots in [None, Some(0), Some(1), Some(2), Some(3), Some(4)] {
+            for round_slots in once(None).chain((0..=6).map(Some)) {
                 for num_proposals in 0..=3 {
                     for (loss_rate, seed) in [(0, 0), (half, 0), (half, 1)] {
                         for (snapshot_interval, max_slots) in [(1, 5), (7, u64::MAX)] {
@@ -151,14 +155,16 @@ impl Source {
     }
 
     fn input(&mut self) -> Input {
+        let graph = if self.below(3) == 0 {
+            self.rows()
+        } else {
+            self.topology()
+        };
+        let flood_repeats = self.around(&[1, 1, 2, 63, 64], 1, 8);
         let mut input = Input {
-            graph: if self.below(3) == 0 {
-                self.rows()
-            } else {
-                self.topology()
-            },
-            flood_repeats: self.around(&[1, 1, 2, 63, 64], 1, 8),
-            round_slots: self.round_slots(),
+            round_slots: self.round_slots(flood_repeats, diameter(&graph)),
+            graph,
+            flood_repeats,
             loss_rate: self.loss_rate(),
             seed: self.seed(),
             num_proposals: self.around(&[0, 1, 2, 63, 64], 0, 64),
@@ -244,12 +250,18 @@ impl Source {
         link_graph(n, |_, _| self.below(rare) == 0)
     }
 
-    fn round_slots(&mut self) -> Option<u64> {
+    /// Absent, or so many that a flood is cut off behind its initiator, farther on or nowhere.
+    fn round_slots(&mut self, repeats: u64, diameter: u64) -> Option<u64> {
         if self.below(3) == 0 {
-            None
-        } else {
-            Some(self.around(&[0, 1, 2, 3, 64, 4095, 4096], 0, 100))
+            return None;
         }
+        // A flood that loses nothing takes no more.
+        let whole = repeats + diameter;
+        let less = repeats.max(whole - 1);
+        let any = repeats + self.below(MAX_ROUND_SLOTS - repeats + 1);
+        let [r, most] = [repeats, MAX_ROUND_SLOTS];
+        let limits = [r, r, r, r + 1, r + 2, less, whole, any, most - 1, most];
+        Some(self.around(&limits, repeats, whole + 1))
     }
 
     fn loss_rate(&mut self) -> u64 {

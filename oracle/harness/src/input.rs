@@ -71,49 +71,65 @@ impl Input {
 
     /// The number of the first question that is answered "no".
     pub fn refusal(&self) -> Option<u8> {
+        self.refusals().next()
+    }
+
+    /// The numbers of all questions that are answered "no", in the order in which they are asked.
+    pub(crate) fn refusals(&self) -> impl Iterator<Item = u8> {
+        let questions = self.questions().into_iter();
+        questions.filter(|(_, yes)| !yes).map(|(number, _)| number)
+    }
+
+    /// The questions in their order, each with its answer.
+    fn questions(&self) -> Vec<(u8, bool)> {
+        let slots = self.round_slots;
         let rate = f64::from_bits(self.loss_rate);
-        let slots_fit = self.round_slots.is_none_or(|slots| slots <= 4096);
-        let questions = [
+        let mut questions = self.graph.questions();
+        questions.extend([
             (5, (1..=64).contains(&self.flood_repeats)),
-            (6, slots_fit),
+            (6, slots.is_none_or(|slots| slots <= 4096)),
+            (16, slots.is_none_or(|slots| slots >= self.flood_repeats)),
             (7, (0.0..1.0).contains(&rate)),
             (8, self.num_proposals <= 64),
             (9, self.snapshot_interval >= 1),
-        ];
-        let first_no = || questions.iter().find(|(_, yes)| !yes).map(|(n, _)| *n);
-        self.graph.refusal().or_else(first_no)
+        ]);
+        questions
     }
 }
 
 impl Graph {
-    fn refusal(&self) -> Option<u8> {
+    /// Those of the graph. Rows are not looked at unless the number of nodes fits.
+    fn questions(&self) -> Vec<(u8, bool)> {
         match self {
-            Graph::Topology { number, .. } if !(1..=6).contains(number) => Some(1),
             Graph::Topology {
                 number,
                 nodes,
                 second,
             } => {
                 let (nodes_fit, second_range) = topology_limits(*number, *nodes, *second);
-                if !nodes_fit {
-                    Some(2)
-                } else {
-                    (!second_range.contains(second)).then_some(3)
-                }
+                vec![
+                    (1, (1..=6).contains(number)),
+                    (2, nodes_fit),
+                    (3, second_range.contains(second)),
+                ]
             }
-            Graph::Rows { nodes, .. } if !(2..=32).contains(nodes) => Some(2),
-            Graph::Rows { nodes, rows } => (!rows_fit(*nodes as usize, rows)).then_some(4),
+            Graph::Rows { nodes, rows } => {
+                let nodes_fit = (2..=32).contains(nodes);
+                let graph_fits = nodes_fit && rows_fit(*nodes as usize, rows);
+                vec![(2, nodes_fit), (4, graph_fits)]
+            }
         }
     }
 }
 
-/// Question 2, and the range that question 3 allows for the second number.
+/// Question 2, and the range that question 3 allows for the second number. It is not put to a grid.
 fn topology_limits(number: u64, nodes: u64, second: u64) -> (bool, RangeInclusive<u64>) {
     let side = 1..=32;
     match number {
         GRID => {
             let sides = side.contains(&nodes) && side.contains(&second);
-            (sides && (2..=32).contains(&(nodes * second)), side)
+            let any = 0..=u64::MAX;
+            (sides && (2..=32).contains(&(nodes * second)), any)
         }
         TREE => ((2..=32).contains(&nodes), 0..=32),
         _ => ((2..=32).contains(&nodes), 0..=0),
@@ -203,6 +219,27 @@ impl fmt::Display for Graph {
             Graph::Rows { nodes, rows } => {
                 let sets: Vec<String> = rows.iter().map(|row| format!("{row:08x}")).collect();
                 write!(f, "rows {nodes} {}", sets.join(","))
+            }
+        }
+    }
+}
+
+#[cfg(test)]
+mod tests {
+    use super::*;
+
+    /// Where 6 and 16 both refuse, 5 does so before them.
+    #[test]
+    fn the_order_of_6_and_16_is_not_seen() {
+        let line = b"2 3 0 1 - 0000000000000000 7 1 2 9";
+        let mut input = Input::parse(line).expect("readable");
+        for repeats in (0..=70).chain(4090..=4100).chain([5000, 1 << 32, u64::MAX]) {
+            for slots in (0..=5010).chain([1 << 32, u64::MAX - 1, u64::MAX]) {
+                input.flood_repeats = repeats;
+                input.round_slots = Some(slots);
+                let refusals: Vec<u8> = input.refusals().collect();
+                let both = refusals.ends_with(&[6, 16]);
+                assert!(!both || refusals[0] == 5, "{input}");
             }
         }
     }

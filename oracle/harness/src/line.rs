@@ -10,6 +10,8 @@ pub enum Line {
     Run { round: Option<u64>, input: Input },
     /// Of `sweep LENGTH COUNT FIRST STEP LINE`: LINE's run with many seeds.
     Sweep(Sweep),
+    /// Of `validity LINE`: what is told of LINE without a run.
+    Validity(Input),
     /// Of `packet N p0 .. p12`: a packet to write.
     Packet(Packet),
     /// Of `text TEXT`: a text to read, any bytes.
@@ -28,6 +30,9 @@ impl Line {
         }
         if let Some(fields) = line.strip_prefix("sweep ") {
             return Sweep::parse(fields).map(Line::Sweep);
+        }
+        if let Some(line) = line.strip_prefix("validity ") {
+            return Input::parse(line.as_bytes()).map(Line::Validity);
         }
         let (round, line) = match line.strip_prefix("round ") {
             None => (None, line),

@@ -1,10 +1,11 @@
-//! The program's listing, what can be printed after it, and the lines of one round, one packet and a
-//! sweep.
+//! The program's listing, what can be printed after it, and the lines of one round, one packet, a
+//! sweep and a validity.
 
 use crate::answer::{Answer, Summary};
 use crate::preview::Preview;
 use crate::round::Round;
 use crate::sweep::{Sweep, Swept};
+use crate::validity::Validity;
 use crate::wire::Packet;
 use std::fmt;
 
@@ -143,6 +144,16 @@ impl fmt::Display for Swept {
                 writeln!(f, "rounds {rounds} kept {kept}")
             }
             Swept::Panicked(_) => writeln!(f, "panic"),
+        }
+    }
+}
+
+impl fmt::Display for Validity {
+    fn fmt(&self, f: &mut fmt::Formatter) -> fmt::Result {
+        match self {
+            Validity::Current => writeln!(f, "current"),
+            Validity::Outdated => writeln!(f, "outdated"),
+            Validity::Refused(number) => writeln!(f, "refused {number}"),
         }
     }
 }

@@ -51,10 +51,10 @@ fn no_round_at_all() {
     rounds_are("2 3 0 1 - 0000000000000000 7 1 2 0", &[]);
 }
 
-/// Only the initiator takes part in a round that is cut.
+/// Only the initiator takes part in a round of as many slots as there are repeats.
 #[test]
 fn the_longest_run() {
-    let line = "2 2 0 2 1 0000000000000000 7 1 1 5000";
+    let line = "2 2 0 1 1 0000000000000000 7 1 1 5000";
     let last = preview("1002", line);
     assert_eq!(last, "packet 0 0 1 0 0 0 0 0 0 0 0 0 0 part 1\n");
     assert_eq!(preview("1003", line), "refused 13\n");
@@ -71,11 +71,14 @@ fn questions_in_their_order() {
     assert_eq!(preview("0", &format!("round 0 {line}")), "refused 12\n");
     let refused = "2 3 0 1 - 0000000000000000 7 1 0 0";
     assert_eq!(preview("9", refused), "refused 9\n");
+    let too_short = "2 3 0 2 1 3ff0000000000000 7 1 0 0";
+    assert_eq!(preview("9", too_short), "refused 16\n");
 }
 
 #[test]
 fn rounds_agree_with_the_summary() {
-    for input in small().step_by(97).chain(random(6).take(300)) {
+    let accepted = small().filter(|input| input.refusal().is_none());
+    for input in accepted.step_by(97).chain(random(6).take(300)) {
         let Answer::Ran(run) = run(&input) else {
             panic!("not accepted: {input}");
         };
@@ -107,7 +110,7 @@ fn packets_follow_the_rules(input: &Input, run: &Summary) {
 
 #[test]
 fn preview_lines_meet_every_question() {
-    let mut met = [false; 14];
+    let mut met = [false; 17];
     for line in previews(5).take(1500) {
         let Some(Line::Run { round, input }) = Line::parse(line.as_bytes()) else {
             met[12] = true;
@@ -119,6 +122,6 @@ fn preview_lines_meet_every_question() {
             Preview::Panicked => panic!("{line}"),
         }
     }
-    let not_met: Vec<usize> = (0..14).filter(|&number| !met[number]).collect();
-    assert_eq!(not_met, [10, 11]);
+    let not_met: Vec<usize> = (0..17).filter(|&number| !met[number]).collect();
+    assert_eq!(not_met, [10, 11, 14, 15]);
 }

@@ -141,6 +141,9 @@ fn questions_in_their_order() {
     }
     let topology = "0 3 0 1 - 0000000000000000 7 1 0 9";
     assert_eq!(sweep("0 1 7 1", topology), "refused 1\n");
+    let too_short = "2 3 0 2 1 3ff0000000000000 7 1 0 9";
+    assert_eq!(sweep("0 1 7 1", too_short), "refused 16\n");
+    assert_eq!(sweep("0 0 7 1", too_short), "refused 16\n");
     assert_eq!(
         sweep("00000000000000000007 01 07 00", PRINTED_LINE),
         sweep("7 1 7 0", PRINTED_LINE)
@@ -177,7 +180,8 @@ fn unreadable() {
 
 #[test]
 fn lines_are_those_of_runs() {
-    for input in small().step_by(997).chain(random(8).take(60)) {
+    let accepted = small().filter(|input| input.refusal().is_none());
+    for input in accepted.step_by(997).chain(random(8).take(60)) {
         let line = input.to_string();
         let seeds = [u64::MAX, 0, 1];
         let answer = sweep(&format!("21 3 {} 1", u64::MAX), &line);
@@ -187,7 +191,7 @@ fn lines_are_those_of_runs() {
 
 #[test]
 fn sweep_lines_meet_every_question() {
-    let mut met = [false; 16];
+    let mut met = [false; 17];
     let mut of_count = [false; 13];
     for line in sweep_lines(5).take(1000) {
         let Some(Line::Sweep(sweep)) = Line::parse(line.as_bytes()) else {
@@ -203,7 +207,7 @@ fn sweep_lines_meet_every_question() {
             Swept::Panicked(message) => panic!("{line}: {message}"),
         }
     }
-    let not_met: Vec<usize> = (0..16).filter(|&number| !met[number]).collect();
+    let not_met: Vec<usize> = (0..17).filter(|&number| !met[number]).collect();
     assert_eq!(not_met, [10, 11, 13, 14]);
     assert_eq!(of_count, [true; 13]);
 }

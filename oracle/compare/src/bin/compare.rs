@@ -16,12 +16,12 @@ const HELP: &str = "\
 usage: compare [SEED [COUNT]]
 
 Answers by ctsim and by the library, and compares: every line of `inputs small`,
-COUNT random ones (100000) and a tenth as many broken ones. A few rounds of each
-are previewed by the library and compared as well, and their packets are written
-and read. So are COUNT random packets, as many that have a fault, and as many
-damaged texts. A tenth as many sweeps of up to 60 seeds are made by the library, and
-each line is compared with ctsim's run of its seed. SEED (1) is the first of the
-seeds that all are made from, another for each 500 of them.
+COUNT random ones (100000) and a tenth as many broken ones. Each is asked for its
+validity too. A few rounds of each are previewed by the library and compared as well,
+and their packets are written and read. So are COUNT random packets, as many that
+have a fault, and as many damaged texts. A tenth as many sweeps of up to 60 seeds are
+made by the library, and each line is compared with ctsim's run of its seed. SEED (1)
+is the first of the seeds that all are made from, another for each 500 of them.
 Status: 0 all are the same; 1 there is a difference; 2 wrong use.
 ";
 

@@ -133,4 +133,30 @@ extern "C" {
         rounds: *mut u64,
         rounds_length: usize,
     ) -> u64;
+    pub fn ctsim_validity_topology(
+        topology: u64,
+        first: u64,
+        second: u64,
+        repeats: u64,
+        round_slots_given: u64,
+        round_slots: u64,
+        loss: f64,
+        seed: u64,
+        proposals: u64,
+        interval: u64,
+        limit: u64,
+    ) -> u64;
+    pub fn ctsim_validity_rows(
+        rows: *const u32,
+        rows_length: usize,
+        n: u64,
+        repeats: u64,
+        round_slots_given: u64,
+        round_slots: u64,
+        loss: f64,
+        seed: u64,
+        proposals: u64,
+        interval: u64,
+        limit: u64,
+    ) -> u64;
 }

@@ -21,7 +21,11 @@ runs LINE with the seeds FIRST + i * STEP modulo 2^64, i below COUNT, in place o
 its own, and is answered with a line for each, `ROUNDS SLOTS LISTEN FLOOD SLEEP
 RECORDS ENDED`, then `rounds SUM kept K`, K the places of a table of LENGTH numbers
 behind the lines; or `refused N`, by 15 if COUNT is above 65536 or LENGTH below
-7 * COUNT. Two more are about packets on the wire:
+7 * COUNT. The line
+  validity LINE
+is answered with `current` if LINE is accepted, `outdated` if 16 alone refuses it,
+else `refused N`, by the first question other than 16. Nothing is run. Two more are
+about packets on the wire:
   packet N p0 .. p12
   text TEXT
 The first, N the number of flags, is answered with the packet's text, the second,
@@ -137,6 +141,7 @@ fn print_answer(
         }
         Some(Line::Run { round, input }) => faults = print_of_run(options, round, &input, output)?,
         Some(Line::Sweep(sweep)) => faults = print_sweep(options, &sweep, output)?,
+        Some(Line::Validity(input)) => write!(output, "{}", input.validity())?,
         Some(Line::Packet(packet)) => print_found(packet.write(), output)?,
         Some(Line::Text(text)) => {
             let packet = Packet::read(&text);

@@ -11,21 +11,24 @@ usage: inputs small
        inputs previews SEED COUNT
        inputs packets SEED COUNT
        inputs sweeps SEED COUNT
+       inputs validities SEED COUNT
 
 Prints lines for `answer`.
-  small     every topology of 2 to 4 nodes and the rows of every labelled graph of
-            that size, with repeats 1 to 3, round slots absent and 0 to 4, P 0 to 3,
-            loss 0 and 0.5
-  random    COUNT accepted lines around the limits of the questions
-  broken    COUNT lines with values beyond a limit or unreadable, a few still accepted
-  previews  COUNT lines `round K LINE`, most of them accepted; K is the first round,
-            the last, beside it or between, or far beyond
-  packets   COUNT lines `packet N p0 .. p12` and `text TEXT`: packets that have a text
-            and their texts, packets of runs, and those that a fault or a damage
-            spoils, of which each has its turn; texts are any bytes but a newline
-  sweeps    COUNT lines `sweep LENGTH COUNT FIRST STEP LINE`, most of them accepted, of
-            0 to 12 seeds, equal and repeated ones among them; the tables are exact,
-            longer or too short
+  small       every topology of 2 to 4 nodes and the rows of every labelled graph of
+              that size, with repeats 1 to 3, round slots absent and 0 to 6, P 0 to 3,
+              loss 0 and 0.5; one in four is refused by 16
+  random      COUNT accepted lines around the limits of the questions
+  broken      COUNT lines with values beyond a limit or unreadable, a few still accepted
+  previews    COUNT lines `round K LINE`, most of them accepted; K is the first round,
+              the last, beside it or between, or far beyond
+  packets     COUNT lines `packet N p0 .. p12` and `text TEXT`: packets that have a text
+              and their texts, packets of runs, and those that a fault or a damage
+              spoils, of which each has its turn; texts are any bytes but a newline
+  sweeps      COUNT lines `sweep LENGTH COUNT FIRST STEP LINE`, most of them accepted, of
+              0 to 12 seeds, equal and repeated ones among them; the tables are exact,
+              longer or too short
+  validities  COUNT lines `validity LINE`: accepted, refused by 16, by 16 and others, or
+              by others; a few are unreadable
 The same SEED gives the same lines.
 ";
 
@@ -70,6 +73,10 @@ fn print_lines(arguments: &[String]) -> Result<(), String> {
         ["sweeps", seed, count] => {
             let count = number("COUNT", count)? as usize;
             write_all(oracle::sweep_lines(number("SEED", seed)?).take(count))
+        }
+        ["validities", seed, count] => {
+            let count = number("COUNT", count)? as usize;
+            write_all(oracle::validities(number("SEED", seed)?).take(count))
         }
         _ => Err(format!("wrong arguments\n\n{HELP}")),
     }

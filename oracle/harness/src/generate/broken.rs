@@ -28,14 +28,22 @@ impl Source {
     }
 
     fn break_value(&mut self, input: &mut Input) {
-        match self.below(8) {
+        match self.below(10) {
             0 => input.flood_repeats = self.pick(&[0, 65, 1 << 32, (1 << 32) + 1, u64::MAX]),
             1 => input.round_slots = Some(self.pick(&[4097, u64::MAX])),
             2 => input.loss_rate = self.bad_loss_rate(),
             3 => input.num_proposals = self.pick(&[65, 1 << 32, u64::MAX]),
             4 => input.snapshot_interval = 0,
+            5 | 6 => self.shorten(input),
             _ => self.break_graph(&mut input.graph),
         }
+    }
+
+    /// Round slots below the repeats, unless these are 0.
+    pub(super) fn shorten(&mut self, input: &mut Input) {
+        let repeats = input.flood_repeats;
+        let any = self.below(repeats.max(1));
+        input.round_slots = Some(self.pick(&[repeats.saturating_sub(1), 0, any]));
     }
 
     /// 1, 2, infinity, NaNs, and numbers below zero.

@@ -4,6 +4,7 @@ mod lines;
 mod packets;
 mod sweeps;
 mod turns;
+mod validities;
 
 use compare::arguments::seed_and_count;
 use compare::library::{self, Buffer, Buffers, PreviewBuffers, PART_LENGTH};
@@ -15,6 +16,7 @@ use std::hint::black_box;
 use std::process::ExitCode;
 use sweeps::print_sweeps;
 use turns::{median, medians, Effort};
+use validities::print_validities;
 
 const HELP: &str = "\
 usage: bench [SEED [COUNT]]
@@ -22,8 +24,8 @@ usage: bench [SEED [COUNT]]
 Prints a table of the processor time that ctsim and the library take for a run,
 for six fixed runs, a table of the library's previews of their rounds, a table of
 sweeps of 10000 seeds beside as many runs, for these and for short runs, a table of
-packets written and read by both, and the median ratio over COUNT random runs (100)
-of SEED (1).
+packets written and read by both, a table of the library's validities, and the median
+ratio over COUNT random runs (100) of SEED (1).
 ";
 
 const FIXED: Effort = Effort {
@@ -72,6 +74,7 @@ fn print_fixed() {
     print_previews();
     print_sweeps();
     print_packets(&FIXED);
+    print_validities(&FIXED);
     println!();
     for (name, line) in RUNS.iter().chain(&GROWTH).chain(&SHORT) {
         println!("{name}: {line}");

@@ -1,6 +1,6 @@
 //! Packets on the wire.
 
-use crate::turns::{medians, Effort};
+use crate::turns::{medians, repeated, Effort, REPEATS};
 use compare::library::{self, Buffer, WireBuffers};
 use oracle::{deserialize_packet, serialize_packet, Packet, PACKET_LENGTH};
 use std::hint::black_box;
@@ -23,9 +23,6 @@ const PACKETS: [(&str, u64, [u64; PACKET_LENGTH]); 3] = [
         [31, 63, 0x5a5a_a5a5, 1, 60, 1, 61, 1, 63, 1, 59, 1, 59],
     ),
 ];
-
-/// A packet takes so little time that a call is so many.
-const REPEATS: usize = 100;
 
 pub fn print_packets(effort: &Effort) {
     println!("\nPackets on the wire: nanoseconds of one call of serialize_packet and");
@@ -68,10 +65,6 @@ fn measure_packet(packet: &Packet, text: &[u8], effort: &Effort) -> [f64; 4] {
         assert_eq!(result, 0, "refused: {packet}");
     });
     medians([&mut write, &mut written, &mut read, &mut taken], effort)
-}
-
-fn repeated(mut call: impl FnMut()) -> impl FnMut() {
-    move || (0..REPEATS).for_each(|_| call())
 }
 
 /// A buffer that lends just these places.

@@ -8,6 +8,13 @@ pub struct Effort {
     pub seconds: f64,
 }
 
+/// What takes very little time is called so many times, as one call.
+pub const REPEATS: usize = 100;
+
+pub fn repeated(mut call: impl FnMut()) -> impl FnMut() {
+    move || (0..REPEATS).for_each(|_| call())
+}
+
 /// Medians over turns in which each has its batch of calls.
 pub fn medians<const N: usize>(calls: [&mut dyn FnMut(); N], effort: &Effort) -> [f64; N] {
     turns(calls, effort).map(median)
