@@ -1,7 +1,8 @@
 /*
  * ctsim: radios that flood one packet by constructive interference and agree on a log of proposals
- * by a pipelined Paxos. Fourteen entries: draws, rows, diameter, three ratios, two runs, two previews
- * of one round, a writer and a reader of a packet's text, and two sweeps of many seeds.
+ * by a pipelined Paxos. Sixteen entries: draws, rows, diameter, three ratios, two runs, two previews
+ * of one round, a writer and a reader of a packet's text, two sweeps of many seeds, and two that say
+ * whether a configuration that was filed earlier would still be run.
  *
  * Build the library with `rt staticlib capi` and link target/staticlib/libcapi.a. It is for x86-64
  * Linux. It keeps nothing between calls, so that threads may call it at the same time. A run, a
@@ -36,27 +37,30 @@
 extern "C" {
 #endif
 
-/* What an entry returns. 1 to 11 and 13 to 15 are the questions, asked in this order; the first "no" is
- * told. 12 is of the program alone. 100 and above are of these entries alone; 100 is asked before the
- * questions. */
+/* What an entry returns. 1 to 11 and 13 to 16 are the questions, asked in the order of their numbers, but
+ * 16 just after 6; the first "no" is told, except by ctsim_validity_topology and ctsim_validity_rows, which
+ * pass over 16 where another question refuses too. 12 is of the program alone. 100 and above are of these
+ * entries alone; 100 is asked before the questions. */
 enum ctsim_result {
     CTSIM_DONE = 0,
-    CTSIM_REFUSED_TOPOLOGY = 1,    /* the topology is not 1 to 6 */
-    CTSIM_REFUSED_NODES = 2,       /* not 2 to 32 nodes; a grid's rows or columns not 1 to 32 */
-    CTSIM_REFUSED_SECOND = 3,      /* second is above 32 for a tree, or not 0 for 1, 2, 3, 5 */
-    CTSIM_REFUSED_ROWS = 4,        /* fewer rows than nodes, or rows that are no graph */
-    CTSIM_REFUSED_REPEATS = 5,     /* the repeats are not 1 to 64 */
-    CTSIM_REFUSED_ROUND_SLOTS = 6, /* the round slots are given and above 4,096 */
-    CTSIM_REFUSED_LOSS = 7,        /* the loss rate is below 0, 1 or more, or no number */
-    CTSIM_REFUSED_PROPOSALS = 8,   /* more than 64 proposals */
-    CTSIM_REFUSED_INTERVAL = 9,    /* the snapshot interval is 0 */
-    CTSIM_REFUSED_BUFFERS = 10,    /* logs, records or, for ctsim_rows, rows are too short */
-    CTSIM_REFUSED_RATIO = 11,      /* a count of the ratio is above 2^53 */
-    CTSIM_REFUSED_ROUND = 13,      /* the run ends before that round: it has at most `round` rounds */
-    CTSIM_REFUSED_TEXT = 14,       /* no packet's text, no packet that has one, or no room for it */
-    CTSIM_REFUSED_SWEEP = 15,      /* more than 65,536 seeds, or not seven places for each */
-    CTSIM_SHORT = 100,             /* a slice for a summary, a packet or a single result is too short */
-    CTSIM_NO_RATIO = 101           /* no refusal: there is no ratio, as the second count is 0 */
+    CTSIM_REFUSED_TOPOLOGY = 1,     /* the topology is not 1 to 6 */
+    CTSIM_REFUSED_NODES = 2,        /* not 2 to 32 nodes; a grid's rows or columns not 1 to 32 */
+    CTSIM_REFUSED_SECOND = 3,       /* second is above 32 for a tree, or not 0 for 1, 2, 3, 5 */
+    CTSIM_REFUSED_ROWS = 4,         /* fewer rows than nodes, or rows that are no graph */
+    CTSIM_REFUSED_REPEATS = 5,      /* the repeats are not 1 to 64 */
+    CTSIM_REFUSED_ROUND_SLOTS = 6,  /* the round slots are given and above 4,096 */
+    CTSIM_REFUSED_LOSS = 7,         /* the loss rate is below 0, 1 or more, or no number */
+    CTSIM_REFUSED_PROPOSALS = 8,    /* more than 64 proposals */
+    CTSIM_REFUSED_INTERVAL = 9,     /* the snapshot interval is 0 */
+    CTSIM_REFUSED_BUFFERS = 10,     /* logs, records or, for ctsim_rows, rows are too short */
+    CTSIM_REFUSED_RATIO = 11,       /* a count of the ratio is above 2^53 */
+    CTSIM_REFUSED_ROUND = 13,       /* the run ends before that round: it has at most `round` rounds */
+    CTSIM_REFUSED_TEXT = 14,        /* no packet's text, no packet that has one, or no room for it */
+    CTSIM_REFUSED_SWEEP = 15,       /* more than 65,536 seeds, or not seven places for each */
+    CTSIM_REFUSED_SHORT_ROUND = 16, /* the round slots are given and below the repeats: no node could
+                                       reach sleep */
+    CTSIM_SHORT = 100,              /* a slice for a summary, a packet or a single result is too short */
+    CTSIM_NO_RATIO = 101            /* no refusal: there is no ratio, as the second count is 0 */
 };
 
 enum ctsim_topology {
@@ -114,6 +118,13 @@ enum ctsim_swept {
     CTSIM_SWEPT_SLEEP = 4,
     CTSIM_SWEPT_RECORDS = 5,
     CTSIM_SWEPT_ENDED = 6
+};
+
+/* What ctsim_validity_topology and ctsim_validity_rows return where no question but 16 refuses. */
+enum ctsim_validity {
+    CTSIM_CURRENT = 0,  /* it would be run */
+    CTSIM_OUTDATED = 16 /* 16 alone refuses it: its round slots are below its repeats, and nothing else
+                           is wrong */
 };
 
 /* The places of a packet, of a run's or of a text's. "Whether" is 1 for yes and 0 for no; a term that
@@ -191,7 +202,7 @@ uint64_t ctsim_flood_coverage(const uint64_t *summary, size_t summary_length,
  *   repeats            in how many slots a node floods, 1 to 64
  *   round_slots_given  0: a round's length limit is the greater of 3 and (d + 2) * repeats, d the
  *                      diameter, and round_slots is not read; any other number: it is round_slots
- *   round_slots        0 to 4,096
+ *   round_slots        the repeats to 4,096
  *   loss               the loss rate, at least 0 and below 1: an attempt is lost when its draw's
  *                      fraction is below it
  *   seed               any number; it fixes every chance of the run
@@ -207,7 +218,7 @@ uint64_t ctsim_flood_coverage(const uint64_t *summary, size_t summary_length,
  *   snapshots          any length: snapshots[5 * k] and on has the slot of snapshot k, the length of
  *                      the shortest log after the last round that ended, and how many nodes listen,
  *                      flood and sleep; those that fit whole are stored
- * Returns 0, 1, 2, 3, 5 to 10, or 100.
+ * Returns 0, 1, 2, 3, 5 to 10, 16, or 100.
  */
 uint64_t ctsim_run_topology(uint64_t topology, uint64_t first, uint64_t second,
                             uint64_t repeats, uint64_t round_slots_given, uint64_t round_slots,
@@ -220,7 +231,7 @@ uint64_t ctsim_run_topology(uint64_t topology, uint64_t first, uint64_t second,
 
 /*
  * Runs n nodes with these rows. Rows are as for ctsim_diameter, all else as for ctsim_run_topology.
- * Returns 0, 2, 4 to 10, or 100.
+ * Returns 0, 2, 4 to 10, 16, or 100.
  */
 uint64_t ctsim_run_rows(const uint32_t *rows, size_t rows_length, uint64_t n,
                         uint64_t repeats, uint64_t round_slots_given, uint64_t round_slots,
@@ -238,7 +249,7 @@ uint64_t ctsim_run_rows(const uint32_t *rows, size_t rows_length, uint64_t n,
  *   round              the round; any number
  *   packet             at least 13 places: the numbers of `enum ctsim_packet`
  *   part               at least 1 place: part[0] is the set of nodes that take part
- * Returns 0, 1, 2, 3, 5 to 9, 13, or 100.
+ * Returns 0, 1, 2, 3, 5 to 9, 13, 16, or 100.
  */
 uint64_t ctsim_preview_topology(uint64_t topology, uint64_t first, uint64_t second,
                                 uint64_t repeats, uint64_t round_slots_given, uint64_t round_slots,
@@ -251,7 +262,7 @@ uint64_t ctsim_preview_topology(uint64_t topology, uint64_t first, uint64_t seco
 /*
  * Looks ahead to one round of a run of n nodes with these rows. Rows are as for ctsim_diameter, all
  * else as for ctsim_preview_topology.
- * Returns 0, 2, 4 to 9, 13, or 100.
+ * Returns 0, 2, 4 to 9, 13, 16, or 100.
  */
 uint64_t ctsim_preview_rows(const uint32_t *rows, size_t rows_length, uint64_t n,
                             uint64_t repeats, uint64_t round_slots_given, uint64_t round_slots,
@@ -313,7 +324,7 @@ uint64_t ctsim_read_packet(const uint8_t *text, size_t text_length,
  *                      ctsim_swept` for the run of seeds[i]
  *   rounds             at least 1 place: rounds[0] is the sum of all lines' rounds, at most
  *                      seeds_length * (P + 1,002)
- * Returns 0, 1, 2, 3, 5 to 9, 15, or 100.
+ * Returns 0, 1, 2, 3, 5 to 9, 15, 16, or 100.
  */
 uint64_t ctsim_sweep_topology(uint64_t topology, uint64_t first, uint64_t second,
                               uint64_t repeats, uint64_t round_slots_given, uint64_t round_slots,
@@ -325,7 +336,7 @@ uint64_t ctsim_sweep_topology(uint64_t topology, uint64_t first, uint64_t second
 /*
  * Runs n nodes with these rows once with each of these seeds. Rows are as for ctsim_diameter, all
  * else as for ctsim_sweep_topology.
- * Returns 0, 2, 4 to 9, 15, or 100.
+ * Returns 0, 2, 4 to 9, 15, 16, or 100.
  */
 uint64_t ctsim_sweep_rows(const uint32_t *rows, size_t rows_length, uint64_t n,
                           uint64_t repeats, uint64_t round_slots_given, uint64_t round_slots,
@@ -333,6 +344,30 @@ uint64_t ctsim_sweep_rows(const uint32_t *rows, size_t rows_length, uint64_t n,
                           const uint64_t *seeds, size_t seeds_length,
                           uint64_t *table, size_t table_length,
                           uint64_t *rounds, size_t rounds_length);
+
+/*
+ * Says whether a configuration of a topology that was filed earlier would still be run. Nothing is run
+ * and nothing is written. Round slots below the repeats were once allowed, and runs of such rounds, in
+ * which no node reaches sleep, may have been filed as results.
+ *   topology to limit  as for ctsim_run_topology; any numbers
+ * Returns CTSIM_CURRENT, 0, if a run of it, with slices that are long enough, would return 0;
+ * CTSIM_OUTDATED, 16, if 16 alone of 1 to 9 and 16 refuses it; else the first other refusal, 1, 2, 3 or
+ * 5 to 9: where 16 and 8 refuse it, this is 8, though a run of it returns 16.
+ */
+uint64_t ctsim_validity_topology(uint64_t topology, uint64_t first, uint64_t second,
+                                 uint64_t repeats, uint64_t round_slots_given, uint64_t round_slots,
+                                 double loss, uint64_t seed,
+                                 uint64_t proposals, uint64_t interval, uint64_t limit);
+
+/*
+ * Says whether a configuration of n nodes with these rows would still be run. Rows are as for
+ * ctsim_diameter, all else as for ctsim_validity_topology.
+ * Returns 0, 16, 2, or 4 to 9.
+ */
+uint64_t ctsim_validity_rows(const uint32_t *rows, size_t rows_length, uint64_t n,
+                             uint64_t repeats, uint64_t round_slots_given, uint64_t round_slots,
+                             double loss, uint64_t seed,
+                             uint64_t proposals, uint64_t interval, uint64_t limit);
 
 #ifdef __cplusplus
 }

@@ -2,7 +2,8 @@
  * Calls each entry of include/ctsim.h with slices that are empty, short, exact and long, and checks
  * the result, what was written and that every other place still holds its mark. The tests of the
  * previews are in previews.c, those of the writer and the reader of a packet's text in packets.c and
- * texts.c, those of the sweeps in sweeps.c. tests/capi.sh builds all into one program and runs it.
+ * texts.c, those of the sweeps in sweeps.c and those of the validity in validity.c. tests/capi.sh builds
+ * all into one program and runs it.
  */
 #include <math.h>
 #include <string.h>
@@ -12,6 +13,7 @@
 #include "previews.h"
 #include "sweeps.h"
 #include "texts.h"
+#include "validity.h"
 
 static void test_draws(void)
 {
@@ -201,6 +203,10 @@ static void test_questions(struct run good)
     r = good; r.repeats = 0; refused(r, 5, "run: refused 5");
     r = good; r.repeats = 65; refused(r, 5, "run: refused 5");
     r = good; r.given = 1; r.round_slots = 4097; refused(r, 6, "run: refused 6");
+    r = good; r.given = 1; refused(r, 16, "run: round slots 0, refused 16");
+    r = good; r.repeats = 64; r.given = 1; r.round_slots = 63; refused(r, 16, "run: one below the repeats, refused 16");
+    r.loss = 1.0; refused(r, 16, "run: 16 comes before 7");
+    r.repeats = 65; refused(r, 5, "run: 5 comes before 16");
     r = good; r.loss = 1.0; refused(r, 7, "run: loss 1, refused 7");
     r = good; r.loss = -0.5; refused(r, 7, "run: loss below 0, refused 7");
     r = good; r.loss = NAN; refused(r, 7, "run: loss is no number, refused 7");
@@ -290,5 +296,8 @@ int main(void)
     test_swept_runs();
     test_swept_networks();
     test_sweep_no_trace();
+    test_validity();
+    test_short_rounds();
+    test_validity_of_runs();
     return report();
 }

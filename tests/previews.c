@@ -58,6 +58,8 @@ static void test_preview_questions(struct run good)
     r = good; r.repeats = 0; unseen(r, 5, "preview: refused 5");
     r = good; r.repeats = 65; unseen(r, 5, "preview: refused 5");
     r = good; r.given = 1; r.round_slots = 4097; unseen(r, 6, "preview: refused 6");
+    r = good; r.repeats = 2; r.given = 1; r.round_slots = 1; unseen(r, 16, "preview: refused 16");
+    r.proposals = 65; unseen(r, 16, "preview: 16 comes before 8");
     r = good; r.loss = 1.0; unseen(r, 7, "preview: loss 1, refused 7");
     r = good; r.loss = -0.5; unseen(r, 7, "preview: loss below 0, refused 7");
     r = good; r.loss = NAN; unseen(r, 7, "preview: loss is no number, refused 7");
@@ -207,8 +209,8 @@ void test_all_rounds(void)
     all_rounds(r, 2, "all rounds: a lossy run");
     r.limit = 100; all_rounds(r, 4, "all rounds: up to the limit");
     r.limit = 0; all_rounds(r, 4, "all rounds: none");
-    r.limit = 100000; r.round_slots = 0; all_rounds(r, 3, "all rounds: rounds without slots");
-    r.round_slots = 1; all_rounds(r, 3, "all rounds: rounds too short");
+    r.limit = 100000; r.round_slots = 2; all_rounds(r, 3, "all rounds: as many slots as repeats");
+    r.repeats = 1; r.round_slots = 1; all_rounds(r, 3, "all rounds: rounds of one slot");
     r.given = 0; r.loss = 0; all_rounds(r, 1, "all rounds: nothing lost");
     r.proposals = 0; all_rounds(r, 1, "all rounds: no proposal");
     r = lossy; r.rows = line; r.rows_length = 3; r.first = 3; r.proposals = 64;

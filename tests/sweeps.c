@@ -96,6 +96,7 @@ static void test_sweep_questions(struct run good)
     r = good; r.repeats = 0; unswept(r, 5, "sweep: refused 5");
     r = good; r.repeats = 65; unswept(r, 5, "sweep: refused 5");
     r = good; r.given = 1; r.round_slots = 4097; unswept(r, 6, "sweep: refused 6");
+    r = good; r.repeats = 2; r.given = 1; r.round_slots = 1; unswept(r, 16, "sweep: refused 16");
     r = good; r.loss = 1.0; unswept(r, 7, "sweep: loss 1, refused 7");
     r = good; r.loss = -0.5; unswept(r, 7, "sweep: loss below 0, refused 7");
     r = good; r.loss = NAN; unswept(r, 7, "sweep: loss is no number, refused 7");
@@ -136,7 +137,8 @@ static void questions_in_order(struct run r)
 {
     unswept(r, 5, "sweep in order: 5");
     r.repeats = 64; unswept(r, 6, "sweep in order: 6");
-    r.round_slots = 4096; unswept(r, 7, "sweep in order: 7");
+    r.round_slots = 63; unswept(r, 16, "sweep in order: 16");
+    r.round_slots = 64; unswept(r, 7, "sweep in order: 7");
     r.loss = 0; unswept(r, 8, "sweep in order: 8");
     r.proposals = 64; unswept(r, 9, "sweep in order: 9");
     r.interval = 1; unswept(r, CTSIM_REFUSED_SWEEP, "sweep in order: 15");
@@ -292,8 +294,8 @@ void test_swept_runs(void)
     r.limit = 100; ends_as_runs(r, END(4), "swept runs: up to the limit");
     r.limit = 1; ends_as_runs(r, END(4), "swept runs: one round");
     r.limit = 0; ends_as_runs(r, END(4), "swept runs: none");
-    r.limit = 100000; r.round_slots = 0; ends_as_runs(r, END(3), "swept runs: rounds without slots");
-    r.round_slots = 1; ends_as_runs(r, END(3), "swept runs: rounds too short");
+    r.limit = 100000; r.round_slots = 2; ends_as_runs(r, END(3), "swept runs: as many slots as repeats");
+    r.repeats = 1; r.round_slots = 1; ends_as_runs(r, END(3), "swept runs: rounds of one slot");
     r.given = 0; ends_as_runs(r, END(2), "swept runs: round slots not given");
     r.loss = 0; ends_as_runs(r, END(1), "swept runs: nothing lost");
     r.proposals = 64; ends_as_runs(r, END(1), "swept runs: the most proposals");

@@ -10,12 +10,11 @@ use native.Mathlib.Omega.{arith}
 use lib.Dec.{eqb, leb}
 use lib.ListN.{length, getElem?}
 use lib.Seq.{sets}
-use Rattle.network.specs.Questions.{within, firstNo, nodesOf, rowsQuestions, topologyQuestions}
+use Rattle.network.specs.Questions.{within, nodesOf, rowsQuestions, topologyQuestions}
 use Rattle.network.specs.Topology.{topologyOf, answered, builtRows, builderRefusal}
 use Rattle.network.specs.Distance.{measured, measuredAs}
 use Rattle.network.specs.declared.topology.Built.{Built}
 use Rattle.network.specs.declared.distance.Measured.{Measured}
-use Rattle.network.proofs.Sets.{and-both}
 use Rattle.config.specs.declared.Config.{Config}
 use Rattle.rules.specs.declared.answer.Answer.{Answer}
 use Rattle.metrics.specs.declared.ratios.Ratio.{Ratio}
@@ -24,6 +23,7 @@ use Rattle.rules.specs.Questions.{configQuestions, runQuestions, refusalFor, ru
 use Rattle.rules.specs.Run.{Past, run}
 use Rattle.rules.specs.Entries.{givenFor, outcomeFor}
 use Rattle.rules.proofs.Admitted.{refused-so}
+use Rattle.rules.proofs.FirstNo.{numbered, first-numbered}
 use Rattle.metrics.specs.Ratio.{ratioOf, question11, quotient}
 use Rattle.phy.specs.declared.packet.Packet.{Packet}
 use Rattle.wire.specs.Grammar.{hasText, packetText}
@@ -37,34 +37,23 @@ use Rattle.preview.specs.Preview.{previewAs, previewIn, previewUnless, previewF
 use Rattle.sweep.specs.declared.Sweep.{Sweep}
 use Rattle.sweep.specs.Sweep.{summaryFor, sweepQuestions, sweepRefusalFor, sweptUnless, sweepFor}
 
--- the questions' numbers are above 0 and below 100
-abbrev numbered : List (Bool × ℕ) → Bool
-numbered [] = true
-numbered (q ∷ qs) = within 1 99 (q .1) && numbered qs
-
-first-numbered : (qs : List (Bool × ℕ)) (k : ℕ) → numbered qs ≡ true → firstNo qs ≡ some k → within 1 99 k ≡ true
-first-numbered [] k h e = let z : _≡_ {A = ℕ} 0 1 = cc in absurd (omega arith)
-first-numbered (q ∷ qs) k h e =
-    let b = and-both (within 1 99 (q .1)) (numbered qs) h in
-    go (q .0) refl (b .0) (first-numbered qs k (b .1))
-  where
-    go : (b : Bool) → q .0 ≡ b → within 1 99 (q .1) ≡ true → (firstNo qs ≡ some k → within 1 99 k ≡ true) → within 1 99 k ≡ true
-    go true p one rest = rest (rw p at e)
-    go false p one rest = let f : some (q .1) ≡ some k = rw p at e in let g : q .1 ≡ k = cc in subst (λ (x : ℕ). within 1 99 x ≡ true) g one
+-- it is above 0 and below 100
+abbrev below100 : ℕ → Bool
+below100 k = within 1 99 k
 
 pub run-numbered : (q : RowsOrTopology) (c : Config) (logs records snapshots : List ℕ) (k : ℕ) → outcomeFor q c logs records snapshots .answer ≡ Answer.Refused k → within 1 99 k ≡ true
 unfolding outcomeFor runRefusalFor
-run-numbered q c logs records snapshots k e = first-numbered (networkQuestions q ++ runQuestions c (length logs) (length records)) k (asked q) (refused-so _ _ logs records snapshots k e)
+run-numbered q c logs records snapshots k e = first-numbered below100 (networkQuestions q ++ runQuestions c (length logs) (length records)) k (asked q) (refused-so _ _ logs records snapshots k e)
   where
-    asked : (q : RowsOrTopology) → numbered (networkQuestions q ++ runQuestions c (length logs) (length records)) ≡ true
+    asked : (q : RowsOrTopology) → numbered below100 (networkQuestions q ++ runQuestions c (length logs) (length records)) ≡ true
     asked (ofRows rows n) = refl
     asked (ofTopology topology first second) = refl
 
 pub preview-numbered : (q : RowsOrTopology) (c : Config) (k j : ℕ) → previewFor q c k ≡ Preview.Refused j → within 1 99 j ≡ true
 unfolding previewFor previewIn refusalFor
-preview-numbered q c k j e = go (refusalFor q c) (first-numbered (networkQuestions q ++ configQuestions c) j (asked q)) e
+preview-numbered q c k j e = go (refusalFor q c) (first-numbered below100 (networkQuestions q ++ configQuestions c) j (asked q)) e
   where
-    asked : (q : RowsOrTopology) → numbered (networkQuestions q ++ configQuestions c) ≡ true
+    asked : (q : RowsOrTopology) → numbered below100 (networkQuestions q ++ configQuestions c) ≡ true
     asked (ofRows rows n) = refl
     asked (ofTopology topology first second) = refl
 
@@ -79,9 +68,9 @@ preview-numbered q c k j e = go (refusalFor q c) (first-numbered (networkQuestio
 pub sweep-numbered : (q : RowsOrTopology) (c : Config) (seeds table : List ℕ) (k : ℕ) → sweepFor q c seeds table .0 ≡ Sweep.Refused k → within 1 99 k ≡ true
 unfolding sweepFor sweepRefusalFor
 sweep-numbered q c seeds table k e =
-    first-numbered (networkQuestions q ++ sweepQuestions c (length seeds) (length table)) k (asked q) (go (sweepRefusalFor q c (length seeds) (length table)) e)
+    first-numbered below100 (networkQuestions q ++ sweepQuestions c (length seeds) (length table)) k (asked q) (go (sweepRefusalFor q c (length seeds) (length table)) e)
   where
-    asked : (q : RowsOrTopology) → numbered (networkQuestions q ++ sweepQuestions c (length seeds) (length table)) ≡ true
+    asked : (q : RowsOrTopology) → numbered below100 (networkQuestions q ++ sweepQuestions c (length seeds) (length table)) ≡ true
     asked (ofRows rows n) = refl
     asked (ofTopology topology first second) = refl
 
@@ -90,7 +79,7 @@ sweep-numbered q c seeds table k e =
     go (some j) p = cc
 
 pub rows-numbered : (topology first second : ℕ) (out : List ℕ) (k : ℕ) → builtRows topology first second out .0 ≡ Built.Refused k → within 1 99 k ≡ true
-rows-numbered topology first second out k e = first-numbered (topologyQuestions topology first second ++ (leb (nodesOf topology first second) (length out), 10) ∷ []) k refl (go (builderRefusal topology first second (length out)) e)
+rows-numbered topology first second out k e = first-numbered below100 (topologyQuestions topology first second ++ (leb (nodesOf topology first second) (length out), 10) ∷ []) k refl (go (builderRefusal topology first second (length out)) e)
   where
     go : (o : Option ℕ) → answered (topologyOf topology second) (nodesOf topology first second) out o .0 ≡ Built.Refused k → o ≡ some k
     go none p = let z : _≡_ {A = ℕ} 0 1 = cc in absurd (omega arith)
@@ -98,7 +87,7 @@ rows-numbered topology first second out k e = first-numbered (topologyQuestions 
 
 pub diameter-numbered : (rows : List ℕ) (n k : ℕ) → measured rows n ≡ Measured.Refused k → within 1 99 k ≡ true
 unfolding measured
-diameter-numbered rows n k e = first-numbered (rowsQuestions rows n) k refl (go _ _ e)
+diameter-numbered rows n k e = first-numbered below100 (rowsQuestions rows n) k refl (go _ _ e)
   where
     go : (d : ℕ) (o : Option ℕ) → measuredAs d o ≡ Measured.Refused k → o ≡ some k
     go d none p = let z : _≡_ {A = ℕ} 0 1 = cc in absurd (omega arith)

@@ -1,6 +1,7 @@
 // The entries for programs in C. Each takes numbers and slices alone, where a slice is a pointer and a length in C, and
 // returns 0 or the number of the refusal, which leaves every slice as it was. `include/ctsim.h` declares them.
 pub mod sweeps;
+pub mod validities;
 
 use marshal::convert::SUMMARY_SIZE;
 use marshal::convert::config_from;

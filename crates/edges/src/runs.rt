@@ -90,11 +90,13 @@ fn show(name: &[u8], topology: u64, first: u64, second: u64, config: Config) {
     put_kept(&logs, &records, &snapshots);
 }
 
-// A run that ends by its index: nobody hears in rounds of one slot.
-fn ends_by_index() {
+// Rounds of one slot, in which only the node that starts takes part, so that the run ends by its index. With two repeats not
+// even that node reaches sleep, and the run is refused.
+fn rounds_of_one_slot() {
     let mut c = with_slots(1);
-    c.flood_repeats = 2;
     c.max_slots = 5000;
+    show(b"line 2, rounds of one slot:", 2, 2, 0, c);
+    c.flood_repeats = 2;
     show(b"line 2, two repeats, rounds of one slot:", 2, 2, 0, c);
 }
 
@@ -199,7 +201,7 @@ fn more_snapshots() {
 
 // All of them.
 pub fn run_all() {
-    ends_by_index();
+    rounds_of_one_slot();
     refusals();
     short_buffers();
     long_buffers();

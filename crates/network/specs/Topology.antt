@@ -8,7 +8,7 @@ use lib.ListN.{length, drop, replicate}
 use Rattle.config.specs.Limits.{maxNodes}
 use Rattle.random.specs.Table.{tabulate}
 use Rattle.network.specs.Graph.{setOf, widened}
-use Rattle.network.specs.Questions.{within, firstNo, nodesOf, topologyQuestions}
+use Rattle.network.specs.Questions.{within, firstNo, nodesOf, rowsQuestions, topologyQuestions}
 use Rattle.network.specs.declared.topology.Topology.{Topology}
 use Rattle.network.specs.declared.topology.Topology.the-variants.{FullMesh, Line, Star, Grid, Ring, Tree}
 use Rattle.network.specs.declared.topology.Built.{Built}
@@ -80,12 +80,20 @@ builtRows topology first second out =
 abbrev pub refusedGraph : ℕ → BuiltGraph
 refusedGraph k = record { answer = Refused k; rows = replicate maxNodes 0 }
 
--- The number of nodes and the rows as a run takes them, or the refusal, from its number or none.
+-- The number of nodes and their rows as a run takes them, or the refusal, from its number or none.
+abbrev pub graphOf : List ℕ → ℕ → Option ℕ → BuiltGraph
+graphOf rows n none = record { answer = Nodes n; rows = widened rows n }
+graphOf rows n (some k) = refusedGraph k
+
+-- the same of a topology
 abbrev pub graphAs : Topology → ℕ → Option ℕ → BuiltGraph
-graphAs t n none = record { answer = Nodes n; rows = widened (topologyRows t n) n }
-graphAs t n (some k) = refusedGraph k
+graphAs t n o = graphOf (topologyRows t n) n o
 
 -- What `build_graph` gives back.
 abbrev pub builtGraph : ℕ → ℕ → ℕ → BuiltGraph
 builtGraph topology first second =
     graphAs (topologyOf topology second) (nodesOf topology first second) (firstNo (topologyQuestions topology first second))
+
+-- What `checked_graph` gives back: questions 2 and 4, then the first n rows.
+abbrev pub checkedGraph : List ℕ → ℕ → BuiltGraph
+checkedGraph rows n = graphOf rows n (firstNo (rowsQuestions rows n))

@@ -6,10 +6,10 @@ ghost use Rattle.network.specs.Graph.{has, setOf, any, linked, Checked};
 ghost use Rattle.config.specs.Limits.{maxNodes};
 ghost use Rattle.network.specs.Distance.{eccentricity, diameter, measured};
 use crate::graph;
-use crate::questions::lies_in;
+use crate::topology::Built;
+use crate::topology::checked_graph;
 use crate::units::NodeId;
 use config::limits::MAX_NODES;
-use config::limits::MIN_NODES;
 
 // What asking for a diameter answers: the number of links, or the number of the question that was answered "no".
 pub enum Measured {
@@ -77,16 +77,13 @@ pub fn diameter_of(rows: &[u64; MAX_NODES], n: usize) -> usize
 pub fn measure(rows: &[u32], n: u64) -> Measured
     ensures { λ r. ⌜ r ≡ measured (now (rows .entry)) n ⌝ }
 {
-    if !lies_in(MIN_NODES, MAX_NODES as u64, n) {
-        return Measured::Refused(2);
+    let checked = checked_graph(rows, n);
+    let answer = checked.answer;
+    match answer {
+        Built::Refused(k) => Measured::Refused(k),
+        Built::Nodes(nodes) => {
+            let wide = checked.rows;
+            Measured::Links(diameter_of(&wide, nodes))
+        }
     }
-    let nodes = n as usize;
-    if rows.len() < nodes {
-        return Measured::Refused(4);
-    }
-    let wide = graph::widen(rows, nodes);
-    if !graph::rows_right(&wide, nodes) {
-        return Measured::Refused(4);
-    }
-    Measured::Links(diameter_of(&wide, nodes))
 }

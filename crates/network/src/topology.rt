@@ -1,12 +1,14 @@
-// The rows of a topology, after the builders of ctsim's network.rs.
+// The rows of a topology, after the builders of ctsim's network.rs, and rows that are given.
 ghost use mathlib.Core.Path.{_≡_};
 ghost use mathlib.Core.List.{List, _++_};
 ghost use Prim.Native.Nat.{ℕ, _^_, _≤_, _<_};
 ghost use lib.ListN.{length, getD, take, drop};
 ghost use Rattle.config.specs.Limits.{maxNodes};
 ghost use Rattle.network.specs.Graph.{widened};
-ghost use Rattle.network.specs.Topology.{topologyRows, builtRows, refusedGraph, builtGraph};
+ghost use Rattle.network.specs.Topology.{topologyRows, builtRows, refusedGraph, builtGraph, checkedGraph};
 ghost use Rattle.network.specs.Builders.{askedGraph, Sized, Askable};
+use crate::graph::rows_right;
+use crate::graph::widen;
 use crate::neighbours::row;
 use crate::questions::lies_in;
 use crate::units::NodeId;
@@ -30,7 +32,7 @@ pub enum Built {
     Refused(u64),
 }
 
-// A topology as a run takes it: the rows as sets of 64 bits, and empty ones from the number of nodes on. A refusal has no
+// A graph as a run takes it: the rows as sets of 64 bits, and empty ones from the number of nodes on. A refusal has no
 // link at all.
 pub struct BuiltGraph {
     pub answer: Built,
@@ -104,6 +106,27 @@ pub fn build_graph(topology: u64, first: u64, second: u64) -> BuiltGraph
             MAX_BRANCHING,
         ),
         _ => refused(1),
+    }
+}
+
+// The graph of n nodes with these rows, where there are 2 to 32 nodes (2) and the first n rows are right (4).
+pub fn checked_graph(rows: &[u32], n: u64) -> BuiltGraph
+    ensures { λ r. ⌜ r ≡ checkedGraph (now (rows .entry)) n ⌝ }
+{
+    if !lies_in(MIN_NODES, MAX_NODES as u64, n) {
+        return refused(2);
+    }
+    let nodes = n as usize;
+    if rows.len() < nodes {
+        return refused(4);
+    }
+    let wide = widen(rows, nodes);
+    if !rows_right(&wide, nodes) {
+        return refused(4);
+    }
+    BuiltGraph {
+        answer: Built::Nodes(nodes),
+        rows: wide,
     }
 }
 

@@ -1,8 +1,8 @@
 // Answers every line of its input as the Rust source does: `packet N` and thirteen numbers with the
 // packet's text, and `text T` with the packet that T is the text of. The first 50 lines are the first
 // example of rule 15.4, packets of the printed run and of the worked example of docs/RULES.md, the longest text,
-// texts of no packet, and packets at the edges of the rule or with numbers that are unreadable; the other 360 are those of
-// `oracle/`'s `inputs packets 18 360`. `stdout` is what its program `answer` prints for `stdin`.
+// texts of no packet, and packets at the edges of the rule or with numbers that are unreadable; the other 360 were made by
+// `oracle/`'s `inputs packets`. `stdout` is what its program `answer` prints for `stdin`.
 use libc::STDIN_FILENO;
 use libc::STDOUT_FILENO;
 use line::read::field;

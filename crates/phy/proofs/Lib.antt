@@ -12,6 +12,7 @@ pub mod Count
 pub mod Counts
 pub mod Payloads
 pub mod Coverage
+pub mod Asleep
 pub mod Packets
 pub mod Starred
 pub mod Tries

@@ -8,10 +8,10 @@ use mathlib.Core.Option.{some}
 use native.Mathlib.Nat.{eq-or-lt-of-le, le-trans, le-mul-of-pos-right}
 use native.Mathlib.Omega.{arith}
 use lib.Dec.{eqb, ltb}
-use borrow.Author.Tests.{lt-ltb, le-ltb, eqb-true, eqb-false}
+use borrow.Author.Tests.{le-ltb, eqb-true, eqb-false}
 use Rattle.network.specs.Graph.{has, linked, setOf, Checked}
 use Rattle.network.specs.Distance.{distance, links, eccentricity, Joined}
-use Rattle.network.proofs.Sets.{two, never, has-setOf, setOf-cong, count-lt}
+use Rattle.network.proofs.Sets.{two, has-setOf, setOf-cong}
 use Rattle.random.proofs.Tables.{getD-tabulate}
 use Rattle.network.proofs.Distances.{distance-self, distance-zero, distance-link, distance-before, joined-distance, eccentricity-bound, eccentricity-each}
 use Rattle.phy.specs.declared.node.Node.{Node}
@@ -24,7 +24,7 @@ use Rattle.phy.specs.Node.{new, transition, holding, begunBy, deliveredT
 use Rattle.phy.specs.Slot.{Setup, Standing, at, howMany, ticked, triesIn, slotStep}
 use Rattle.phy.specs.Round.{lengthLimit, Flooded, tookPart, begun, delivered, participants, coverage, withNodes, slots, round}
 use Rattle.phy.proofs.Nodes.{at-ticked, at-moved, state-ticked}
-use Rattle.phy.proofs.Rounds.{slots-more, slots-last}
+use Rattle.phy.proofs.Rounds.{flooder, slots-more, slots-last}
 use Rattle.phy.proofs.Packets.{same-packet-itself}
 use Rattle.phy.proofs.Count.{count-all, count-none}
 use Rattle.phy.proofs.Tries.{NoneLost, Even, tallied-slot, tallied-round, attempts-grow, none-lost, all-heard, first-attempts}
@@ -117,9 +117,7 @@ module _ (g : Setup) (a : ℕ) (ck : Checked (g .rows) (g .nodes)) (joined : Joi
   wave-goes-on : (k : ℕ) (nodes : List Node) → Wave g a before k nodes → k < lasts g a → ltb 0 (howMany isFlooding nodes (g .nodes)) ≡ true
   wave-goes-on k nodes wave h =
       let j = away-each (g .rows) (g .nodes) a ck joined ha (min k (eccentricity (g .rows) (g .nodes) a)) (omega arith) in
-      let awake = floods-then (wave (j .0) (j .1)) (omega (arith, j .2)) (omega (arith, j .2)) in
-      lt-ltb 0 (howMany isFlooding nodes (g .nodes))
-      (omega (arith, count-lt (g .nodes) (λ _. false) (λ (i : ℕ). isFlooding (at nodes i)) (λ i l e. never e refl) (j .0) (j .1) refl awake))
+      flooder (g .nodes) nodes (j .0) (j .1) (floods-then (wave (j .0) (j .1)) (omega (arith, j .2)) (omega (arith, j .2)))
 
   wave-ends : (k : ℕ) (nodes : List Node) → Wave g a before k nodes → lasts g a ≤ k → ltb 0 (howMany isFlooding nodes (g .nodes)) ≡ false
   wave-ends k nodes wave h =

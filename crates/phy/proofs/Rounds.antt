@@ -8,6 +8,7 @@ use lib.Count.{ones}
 use lib.Dec.{ltb}
 use borrow.Author.Tests.{le-ltb, lt-ltb}
 use Rattle.network.specs.Graph.{setOf, count}
+use Rattle.network.proofs.Sets.{never, count-lt}
 use Rattle.phy.specs.declared.node.Node.{Node}
 use Rattle.phy.specs.Node.{isFlooding}
 use Rattle.phy.specs.Slot.{Setup, Standing, at, howMany, slotStep}
@@ -37,6 +38,12 @@ module _ (n : ℕ) (nodes : List Node) (flooding : ℕ) (are : flooding ≡ setO
       above : (k : ℕ) → (k ≡ 0 → ⊥) → 0 < k
       above zero q = absurd (q refl)
       above (suc k) q = omega arith
+
+-- a node that floods is counted
+pub flooder : (n : ℕ) (nodes : List Node) (a : ℕ) → a < n → isFlooding (at nodes a) ≡ true → ltb 0 (howMany isFlooding nodes n) ≡ true
+flooder n nodes a ha e =
+    lt-ltb 0 (howMany isFlooding nodes n)
+    (omega (arith, count-lt n (λ _. false) (λ (i : ℕ). isFlooding (at nodes i)) (λ i l p. never p refl) a ha refl e))
 
 module _ (g : Setup) (left : ℕ) (s : Standing) where
   pub slots-more : ltb 0 (howMany isFlooding (slotStep g s .nodes) (g .nodes)) ≡ true → slots g (suc left) s ≡ slots g left (slotStep g s)

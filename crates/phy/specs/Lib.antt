@@ -6,4 +6,5 @@ pub mod Slot
 pub mod Snapshots
 pub mod Round
 pub mod Coverage
+pub mod Asleep
 pub mod View

@@ -36,7 +36,7 @@ abbrev pub previewUnless : Option ℕ → Given → ℕ → Preview
 previewUnless none g k = previewIn g k
 previewUnless (some question) g k = Refused question
 
--- round k of the run that is asked for, by rows or by a topology, after questions 1 to 9
+-- round k of the run that is asked for, by rows or by a topology, after the questions of the network and of the configuration
 unfoldable pub previewFor : RowsOrTopology → Config → ℕ → Preview
 previewFor q c k = previewUnless (refusalFor q c) (givenFor q c) k
 

@@ -74,7 +74,7 @@ fn preview_graph(graph: &[u64; MAX_NODES], plan: Plan, k: u64) -> Preview
     preview_over(graph, plan, k, &mut all)
 }
 
-// Round k of the run of the network that was asked for: questions 5 to 9, then the round.
+// Round k of the run of the network that was asked for: the questions of the configuration, then the round.
 fn preview_network(extent: Extent, graph: &[u64; MAX_NODES], config: Config, k: u64) -> Preview
     requires { ⌜ AskedFor (network extent (now graph)) ⌝ }
     ensures { λ r. ⌜ ((q : RowsOrTopology) (lent : List ℕ) → network extent (now (graph .entry)) ≡ networkFor q lent → r ≡ previewFor q config k) ⌝ }

@@ -40,7 +40,7 @@ pub size-ones : (a : ℕ) → a < 2 ^ 64 → size a ≡ ones a
 unfolding size
 size-ones a h = size-ones-in 64 a h
 
-one-bit : (i : ℕ) → ones (2 ^ i) ≡ 1
+pub one-bit : (i : ℕ) → ones (2 ^ i) ≡ 1
 unfolding ones
 one-bit zero = refl
 one-bit (suc i) =

@@ -1,13 +1,17 @@
 // Answers every line of its input as the Rust source does. The first 71 lines put each question
 // on both sides of its boundary; the next 664 were chosen among those of `oracle/`'s program
 // `inputs` (small, random and broken), so that each end, lossy runs, NACKs, piggybacks, graphs given
-// by rows and refusals are among them; four are at edges that those miss. The next 368 ask for one
-// round: 12 of the printed run and about it, 350 chosen likewise among those of `inputs previews`, and
-// the rounds of the worked example of docs/RULES.md. The last 131 are sweeps: 41 put the questions and
-// the lengths, and 90 are those of `inputs sweeps 5 90`. `stdout` is what `oracle/`'s program `answer`
-// prints for `stdin`.
+// by rows and refusals are among them; four are at edges that those miss, and 16 are about question
+// 16. The next 375 ask for one round: 12 of the printed run and about it, 350 chosen likewise among
+// those of `inputs previews`, the rounds of the worked example of docs/RULES.md, and seven about
+// question 16. The next 138 are sweeps: 41 put the questions and the lengths, 90 were made by `inputs
+// sweeps`, and seven are about question 16. The last 60 ask for the validity of a configuration: 45 put
+// each question, with 16 and without it, and 15 are of `inputs validities 1`. Lines of `inputs` whose
+// rounds were too short have other repeats, round slots, intervals or limits here. `stdout` is what
+// `oracle/`'s program `answer` prints for `stdin`.
 mod rounds_shown;
 mod sweeps_shown;
+mod validities_shown;
 
 use config::limits::LISTED_SIZE;
 use config::limits::LOG_SIZE;
@@ -35,6 +39,8 @@ use sweeps_shown::show_sweep_of_topology;
 use text::numeral::Number;
 use text::numeral::decimal;
 use text::numeral::numeral;
+use validities_shown::show_validity_of_rows;
+use validities_shown::show_validity_of_topology;
 ghost use Prim.Native.Nat.{_≤_};
 ghost use mathlib.Core.Path.{_≡_};
 ghost use lib.ListN.{length};
@@ -123,25 +129,44 @@ fn run_sets(rows: &[u32], nodes: u64, line: Line, out: &mut [u8]) -> usize
     }
 }
 
-// What a line asks for: the run, one round of it, or a sweep.
-enum Wanted {
-    Run,
+// What is printed at once, and leaves nothing in the buffer: one round, a sweep or the configuration's validity.
+enum Shown {
     Round(u64),
     Sweep(Seeds),
+    Validity,
 }
 
-// Answers for the rows. A round and a sweep are printed at once, and leave nothing in the buffer.
+// What a line asks for.
+enum Wanted {
+    Run,
+    Shown(Shown),
+}
+
+fn show_of_rows(rows: &[u32], nodes: u64, line: Line, shown: Shown) {
+    let config = config_of(line);
+    match shown {
+        Shown::Round(k) => show_round_of_rows(rows, nodes, config, k),
+        Shown::Sweep(seeds) => show_sweep_of_rows(rows, nodes, config, seeds),
+        Shown::Validity => show_validity_of_rows(rows, nodes, config),
+    }
+}
+
+fn show_of_topology(line: Line, shown: Shown) {
+    match shown {
+        Shown::Round(k) => show_round_of_topology(line, k),
+        Shown::Sweep(seeds) => show_sweep_of_topology(line, seeds),
+        Shown::Validity => show_validity_of_topology(line),
+    }
+}
+
+// Answers for the rows.
 fn answer_sets(rows: &[u32], nodes: u64, line: Line, wanted: Wanted, out: &mut [u8]) -> usize
     ensures { λ r. ⌜ r ≤ listingMost ⌝ }
 {
     match wanted {
         Wanted::Run => run_sets(rows, nodes, line, out),
-        Wanted::Round(k) => {
-            show_round_of_rows(rows, nodes, config_of(line), k);
-            0
-        }
-        Wanted::Sweep(seeds) => {
-            show_sweep_of_rows(rows, nodes, config_of(line), seeds);
+        Wanted::Shown(shown) => {
+            show_of_rows(rows, nodes, line, shown);
             0
         }
     }
@@ -170,17 +195,10 @@ fn answer_topology(line: &[u8], wanted: Wanted, out: &mut [u8]) -> usize
 {
     match wanted {
         Wanted::Run => program::answer(line, out),
-        Wanted::Round(k) => match read_line(line) {
+        Wanted::Shown(shown) => match read_line(line) {
             Read::Unreadable => write_refusal(12, out),
             Read::Line(l) => {
-                show_round_of_topology(l, k);
-                0
-            }
-        },
-        Wanted::Sweep(seeds) => match read_line(line) {
-            Read::Unreadable => write_refusal(12, out),
-            Read::Line(l) => {
-                show_sweep_of_topology(l, seeds);
+                show_of_topology(l, shown);
                 0
             }
         },
@@ -220,15 +238,20 @@ fn answer_sweep(line: &[u8], out: &mut [u8]) -> usize
         step,
     };
     let at = field_start(line, 5);
-    answer_wanted(&line[at..], Wanted::Sweep(seeds), out)
+    answer_wanted(&line[at..], Wanted::Shown(Shown::Sweep(seeds)), out)
 }
 
-// The answer to a line, to one behind `round K`, which the third letter tells from `rows`, or to a sweep.
+// The answer to a line, to one behind `round K`, which the third letter tells from `rows`, to a sweep, or to one behind
+// `validity`.
 fn answer(line: &[u8], out: &mut [u8]) -> usize
     ensures { λ r. ⌜ r ≤ listingMost ⌝ }
 {
     if byte_at(line, 0) == b's' {
         return answer_sweep(line, out);
+    }
+    if byte_at(line, 0) == b'v' {
+        let at = field_start(line, 1);
+        return answer_wanted(&line[at..], Wanted::Shown(Shown::Validity), out);
     }
     if byte_at(line, 2) != b'u' {
         return answer_wanted(line, Wanted::Run, out);
@@ -237,7 +260,7 @@ fn answer(line: &[u8], out: &mut [u8]) -> usize
         return write_refusal(12, out);
     };
     let at = field_start(line, 2);
-    answer_wanted(&line[at..], Wanted::Round(k), out)
+    answer_wanted(&line[at..], Wanted::Shown(Shown::Round(k)), out)
 }
 
 // Answers one line after another.

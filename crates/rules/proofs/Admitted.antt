@@ -1,21 +1,21 @@
 -- What acceptance says of a run. Assumes nothing.
 use Prim.Native.Nat.{ℕ, _≤_}
-use mathlib.Core.List.{List, _++_}
+use mathlib.Core.List.{List, _++_, append-assoc}
 use mathlib.Core.Logic.{⊎-elim}
 use mathlib.Core.Option.{Option, none, some}
-use mathlib.Core.Path.{_≡_, refl, ap, _∙_}
+use mathlib.Core.Path.{_≡_, refl, sym, ap, _∙_}
 use native.Mathlib.Omega.{arith}
 use borrow.Author.Tests.{le-leb}
 use lib.ListN.{length}
 use Rattle.config.specs.Limits.{logSize, recordsSize}
 use Rattle.network.specs.Questions.{firstNo}
 use Rattle.network.proofs.Distances.{diameter-lt}
-use Rattle.network.proofs.Within.{all-yes}
+use Rattle.network.proofs.Within.{first-no, all-yes}
 use Rattle.metrics.specs.declared.summary.Summary.{Summary}
 use Rattle.config.specs.declared.Config.{Config}
 use Rattle.rules.specs.declared.answer.Answer.the-variants.{Ran, Refused}
 use Rattle.rules.specs.Networks.{RowsOrTopology, networkQuestions}
-use Rattle.rules.specs.Questions.{configQuestions, bufferQuestions, runQuestions, refusalFor, runRefusalFor}
+use Rattle.rules.specs.Questions.{configQuestions, bufferQuestions, runQuestions, questionsFor, refusalFor, runRefusalFor}
 use Rattle.rules.specs.Accepted.{MeasuredGraph, Accepted}
 use Rattle.rules.specs.Run.{Given, run}
 use Rattle.rules.specs.Entries.{summaryOf, ranWith, givenAs, givenFor, outcomeOf, outcomeFor}
@@ -27,7 +27,7 @@ pub record Roomy (logs records : List ℕ) : Type 0 where
   pub for-logs : logSize ≤ length logs
   pub for-records : recordsSize ≤ length records
 
--- a graph with a configuration that passes questions 5 to 9
+-- a graph with a configuration that its questions let pass
 pub accepts : {graph : List ℕ} {n d : ℕ} (c : Config) → MeasuredGraph graph n d → firstNo (configQuestions c) ≡ none → Accepted (givenAs graph n d c)
 accepts {graph} {n} {d} c graph-is e =
     let q = config-facts c e in
@@ -40,11 +40,12 @@ accepts {graph} {n} {d} c graph-is e =
       repeats-low = q .repeats .0;
       repeats-high = q .repeats .1;
       round-slots = q .slots;
+      slots-suffice = q .suffice;
       proposals = q .proposals;
       interval = q .interval;
     }
 
--- what questions 1 to 9 let pass
+-- what the questions of the network and of the configuration let pass
 pub accepted-for : (q : RowsOrTopology) (c : Config) → refusalFor q c ≡ none → Accepted (givenFor q c)
 unfolding refusalFor
 accepted-for q c e = let yes = both-none (networkQuestions q) (configQuestions c) e in accepts c (network-measured q (yes .0)) (yes .1)
@@ -89,7 +90,7 @@ admitted q c logs records snapshots s e =
       summary = r .1;
     }
 
--- what questions 1 to 9 let pass is run, if the buffers are long enough
+-- what they let pass is run, if the buffers are long enough
 pub admits : (q : RowsOrTopology) (c : Config) (logs records snapshots : List ℕ) → refusalFor q c ≡ none → Roomy logs records
     → outcomeFor q c logs records snapshots .answer ≡ Ran (summaryOf (givenFor q c) (run (givenFor q c)))
 unfolding outcomeFor refusalFor runRefusalFor ranWith
@@ -100,7 +101,16 @@ admits q c logs records snapshots e room =
     ap (λ (o : Option ℕ). outcomeOf o (givenFor q c) logs records snapshots .answer)
     (all-yes (networkQuestions q) (configQuestions c ++ rest) (yes .0) ∙ all-yes (configQuestions c) rest (yes .1) ∙ long)
 
--- a run that is refused, and not for its buffers, is refused by questions 1 to 9
+-- what they refuse is refused by the same number, whatever its buffers are
+pub refuses : (q : RowsOrTopology) (c : Config) (logs records snapshots : List ℕ) (question : ℕ) → refusalFor q c ≡ some question
+    → outcomeFor q c logs records snapshots .answer ≡ Refused question
+unfolding outcomeFor refusalFor runRefusalFor
+refuses q c logs records snapshots question e =
+    let rest = bufferQuestions (length logs) (length records) in
+    ap (λ (o : Option ℕ). outcomeOf o (givenFor q c) logs records snapshots .answer)
+    (ap firstNo (sym (append-assoc (networkQuestions q) (configQuestions c) rest)) ∙ first-no (questionsFor q c) rest question e)
+
+-- a run that is refused, and not for its buffers, is refused by them
 pub refused-for : (q : RowsOrTopology) (c : Config) (logs records snapshots : List ℕ) (question : ℕ)
     → outcomeFor q c logs records snapshots .answer ≡ Refused question → (question ≡ 10 → ⊥) → refusalFor q c ≡ some question
 unfolding outcomeFor runRefusalFor

@@ -6,64 +6,28 @@ use mathlib.Core.Path.{_≡_, refl, sym, ap, subst, _∙_}
 use native.Mathlib.Omega.{arith}
 use Rattle.config.specs.Limits.{maxNodes}
 use Rattle.config.specs.declared.Config.{Config}
-use Rattle.network.specs.Graph.{widened, Checked}
-use Rattle.network.specs.Distance.{diameter, measuredAs, measured}
-use Rattle.network.specs.Questions.{firstNo, nodesOf, rowsQuestions}
-use Rattle.network.specs.Topology.{topologyOf}
-use Rattle.network.specs.declared.distance.Measured.the-variants.{Links, Refused as Measured·Refused}
-use Rattle.network.proofs.Checks.{agree-checked, diameter-agree}
-use Rattle.network.proofs.Rows.{getD-widened, length-widened}
-use Rattle.network.proofs.Topologies.{rows-checked}
-use Rattle.network.proofs.Within.{first-no, all-yes, within-both, topology-nodes}
+use Rattle.network.specs.Graph.{Checked}
+use Rattle.network.specs.Distance.{diameter}
+use Rattle.network.specs.Questions.{firstNo}
+use Rattle.network.proofs.Built.{wide-checked, topology-sized, rows-sized}
+use Rattle.network.proofs.Within.{first-no, all-yes}
 use Rattle.rules.specs.declared.networks.Extent.the-variants.{Of, Refused}
 use Rattle.rules.specs.Accepted.{MeasuredGraph}
 use Rattle.rules.specs.Questions.{configQuestions, refusalFor}
 use Rattle.rules.specs.Entries.{givenAs, givenFor}
 use Rattle.rules.specs.Networks.{RowsOrTopology, ofRows, ofTopology, networkQuestions, nodesIn, rowsIn, graphIn, Network, network, networkAs, networkFor}
-use Rattle.rules.proofs.FirstNo.{row-facts}
-
--- ---- rows: what the answer of `measure` says
-pub measured-refused : (rows : List ℕ) (n k : ℕ) → Measured·Refused k ≡ measured rows n → firstNo (rowsQuestions rows n) ≡ some k
-unfolding measured
-measured-refused rows n k e = go (firstNo (rowsQuestions rows n)) e
-  where
-    go : (o : Option ℕ) → Measured·Refused k ≡ measuredAs (diameter rows n) o → o ≡ some k
-    go none p = let z : _≡_ {A = ℕ} 0 1 = cc in absurd (omega arith)
-    go (some j) p = cc
-
-pub measured-links : (rows : List ℕ) (n d : ℕ) → Links d ≡ measured rows n → (firstNo (rowsQuestions rows n) ≡ none) × (d ≡ diameter rows n)
-unfolding measured
-measured-links rows n d e = go (firstNo (rowsQuestions rows n)) e
-  where
-    go : (o : Option ℕ) → Links d ≡ measuredAs (diameter rows n) o → (o ≡ none) × (d ≡ diameter rows n)
-    go none p = (refl, cc)
-    go (some j) p = let z : _≡_ {A = ℕ} 0 1 = cc in absurd (omega arith)
-
--- the diameter is that of the widened rows
-pub wide-diameter : (rows : List ℕ) (n d : ℕ) → firstNo (rowsQuestions rows n) ≡ none → d ≡ diameter rows n → d ≡ diameter (widened rows n) n
-wide-diameter rows n d e m = m ∙ diameter-agree rows (widened rows n) n (λ i h. sym (getD-widened rows n (row-facts rows n e .1 .enough) i h))
 
 -- ---- what the questions leave
 
 -- 2 to 32 nodes, with rows that pass the row check
 sized : (q : RowsOrTopology) → firstNo (networkQuestions q) ≡ none → ((2 ≤ nodesIn q) × (nodesIn q ≤ maxNodes)) × Checked (rowsIn q) (nodesIn q)
-sized (ofRows rows n) e = row-facts rows n e
-sized (ofTopology topology first second) e =
-    let n : ℕ = nodesOf topology first second in
-    (within-both 2 maxNodes n (topology-nodes topology first second e), rows-checked (topologyOf topology second) n)
+sized (ofRows rows n) e = rows-sized rows n e
+sized (ofTopology topology first second) e = topology-sized topology first second e
 
 pub network-measured : (q : RowsOrTopology) → firstNo (networkQuestions q) ≡ none → MeasuredGraph (graphIn q) (nodesIn q) (diameter (graphIn q) (nodesIn q))
 network-measured q e =
     let s = sized q e in
-    let rows = rowsIn q in
-    let n = nodesIn q in
-    let enough = s .1 .enough in
-    record {
-      checked = agree-checked rows (graphIn q) n (λ i h. sym (getD-widened rows n enough i h)) (length-widened rows n enough) (s .1);
-      two = s .0 .0;
-      few = s .0 .1;
-      measured = refl;
-    }
+    record { checked = wide-checked (rowsIn q) (nodesIn q) (s .1); two = s .0 .0; few = s .0 .1; measured = refl }
 
 -- ---- what asking for it answers
 

@@ -20,6 +20,7 @@
 --     RunBounds    bounds on the counts of every accepted run
 --     Coverage     the covered nodes of a round are those that took part
 --     SentPackets  the packets of every accepted run
+--     ShortRounds  what question 16 leaves, and what it rules out
 pub mod FirstNo
 pub mod Found
 pub mod Rounds
@@ -41,3 +42,4 @@ pub mod Tallies
 pub mod RunBounds
 pub mod Coverage
 pub mod SentPackets
+pub mod ShortRounds

@@ -24,12 +24,14 @@ use Rattle.rules.proofs.Rounds.{longest-few, took-part-few}
 use Rattle.rules.proofs.Coverage.{same-counts}
 use Rattle.rules.proofs.Ends.{Through, along-rounds, tallied-next}
 use Rattle.rules.proofs.Admitted.{admitted}
+use Rattle.rules.proofs.ShortRounds.{slept-in}
 use Rattle.rules.proofs.Tallies.{Low, Few, few-prepared, few-processed, low-packet}
 
 -- ---- after k rounds
 
 record Within (g : Given) (k : ℕ) (r : Running) : Type 0 where
   rounds : length (r .rounds) ≡ k
+  slots-least : k * g .repeats ≤ r .standing .slot
   slots : r .standing .slot ≤ k * longest g
   counted : (j : ℕ) → j < g .nodes → total (at (r .standing .nodes) j) ≡ r .standing .slot
   tallied : Tallied (g .nodes) (g .heard) (begin g .standing) (r .standing)
@@ -37,17 +39,18 @@ record Within (g : Given) (k : ℕ) (r : Running) : Type 0 where
   few : Few k (g .nodes * k) (r .shared)
   due : Due (g .interval) (r .standing .slot) (r .standing .shots)
 
-module _ (g : Given) (pos : 1 ≤ g .interval) where
+module _ (g : Given) (a : Accepted g) where
   within-none : Within g 0 (begin g)
   within-none =
       record {
         rounds = refl;
+        slots-least = omega arith;
         slots = zero-le;
         counted = λ j h. ap total (getD-replicate (g .nodes) j new new h);
         tallied = tallied-none (g .nodes) (g .heard) (begin g .standing);
         took-part = zero-le;
         few = record { nacks = zero-le; piggybacks = zero-le; filed = zero-le; low = all-new Low tt (g .nodes) };
-        due = due-none (g .interval) (begin g .standing .shots) pos refl refl;
+        due = due-none (g .interval) (begin g .standing .shots) (a .interval) refl refl;
       }
 
   within-next : (k : ℕ) (r : Running) → Within g k r → Within g (suc k) (runRound g k r)
@@ -55,12 +58,13 @@ module _ (g : Given) (pos : 1 ≤ g .interval) where
   within-next k r now =
       record {
         rounds = length-append (r .rounds) (this ∷ []) ∙ omega (arith, now .rounds);
+        slots-least = omega (arith, now .slots-least, slept-in g a k r .length);
         slots = omega (arith, now .slots, round-most setup (longest g) i (ready .packet) (r .standing));
         counted = λ j h. omega (arith, now .counted j h, counted-round setup (longest g) i (ready .packet) (r .standing) j h);
         tallied = tallied-then (now .tallied) (tallied-next g k r);
         took-part = omega (arith, now .took-part, took-part-few (g .nodes) flooded);
         few = record { nacks = omega (arith, few .nacks); piggybacks = omega (arith, few .piggybacks); filed = few .filed; low = few .low };
-        due = due-round setup (longest g) i (ready .packet) (r .standing) pos (now .due);
+        due = due-round setup (longest g) i (ready .packet) (r .standing) (a .interval) (now .due);
       }
     where
       i : ℕ
@@ -96,11 +100,12 @@ shots-few slots interval pos = div-le-of-le-mul interval (omega (arith, mul-le-m
 bounds-of : (g : Given) → Accepted g → Bounds g (summaryOf g (run g))
 bounds-of g a =
     let s : Summary = summaryOf g (run g) in
-    let w = within-run g (a .interval) in
+    let w = within-run g a in
     let now = w .holds in
     let most : longest g ≤ 4096 = longest-few (g .roundSlots) (g .diameter) (g .repeats) (a .round-slots) (a .diameter-low) (a .repeats-high) in
     let rounds : s .rounds ≤ mostRounds (g .proposals) = omega (arith, now .rounds, w .few) in
     let slots : s .slots ≤ s .rounds * longest g = subst (λ (k : ℕ). s .slots ≤ k * longest g) (sym (now .rounds)) (now .slots) in
+    let slots-least : s .rounds * g .repeats ≤ s .slots = subst (λ (k : ℕ). k * g .repeats ≤ s .slots) (sym (now .rounds)) (now .slots-least) in
     let slots-most : s .slots ≤ 1066 * 4096
     = omega (arith, slots, mul-le-mul {n₁ = s .rounds} {m₁ = longest g} {n₂ = 1066} {m₂ = 4096} (omega (arith, rounds, a .proposals)) most) in
     let each-slot : s .listen + s .flood + s .sleep ≡ g .nodes * s .slots
@@ -124,6 +129,7 @@ bounds-of g a =
     record {
       nodes = refl;
       rounds = rounds;
+      slots-least = slots-least;
       slots = slots;
       round-slots = most;
       slots-most = slots-most;

@@ -6,7 +6,7 @@ use mathlib.Core.List.{List}
 use Rattle.config.specs.Limits.{maxNodes, maxTerms, maxRepeats}
 use Rattle.network.specs.Graph.{Checked}
 use Rattle.network.specs.Distance.{diameter}
-use Rattle.rules.specs.Questions.{slotsAllowed}
+use Rattle.rules.specs.Questions.{slotsAllowed, slotsSuffice}
 use Rattle.rules.specs.Run.{Given}
 
 -- a graph of 2 to 32 nodes that passes the row check, with its diameter
@@ -16,7 +16,7 @@ pub record MeasuredGraph (graph : List ℕ) (n d : ℕ) : Type 0 where
   pub few : n ≤ maxNodes
   pub measured : d ≡ diameter graph n
 
--- the run of such a graph, whose diameter is then below 32, with numbers that questions 5, 6, 8 and 9 let pass; of the loss rate,
+-- the run of such a graph, whose diameter is then below 32, with numbers that questions 5, 6, 16, 8 and 9 let pass; of the loss rate,
 -- question 7, nothing is needed
 pub record Accepted (g : Given) : Type 0 where
   pub checked : Checked (g .rows) (g .nodes)
@@ -27,5 +27,6 @@ pub record Accepted (g : Given) : Type 0 where
   pub repeats-low : 1 ≤ g .repeats
   pub repeats-high : g .repeats ≤ maxRepeats
   pub round-slots : slotsAllowed (g .roundSlots) ≡ true
+  pub slots-suffice : slotsSuffice (g .repeats) (g .roundSlots) ≡ true
   pub proposals : g .proposals ≤ maxTerms
   pub interval : 1 ≤ g .interval

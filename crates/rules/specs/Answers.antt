@@ -16,6 +16,11 @@ abbrev pub refusalOf : Refusal → Option ℕ
 refusalOf None = none
 refusalOf (Number k) = some k
 
+-- the first of two refusals
+abbrev pub orElse : Option ℕ → Option ℕ → Option ℕ
+orElse none second = second
+orElse (some k) second = some k
+
 -- an answer with the final contents of the buffers of logs, records and snapshots
 abbrev pub outcome : Answer → List ℕ → List ℕ → List ℕ → Outcome
 outcome a l r s = record { answer = a; logs = l; records = r; snapshots = s }

@@ -107,7 +107,7 @@ abbrev pub outcomeOf : Option ℕ → Given → List ℕ → List ℕ → List �
 outcomeOf none g logs records snapshots = ranWith g logs records snapshots
 outcomeOf (some k) g logs records snapshots = record { answer = Refused k; logs = logs; records = records; snapshots = snapshots }
 
--- run of a graph that its own questions let pass: questions 5 to 10, then the run
+-- run of a graph that its own questions let pass: those of the configuration and of the buffers, then the run
 abbrev pub runOfGraph : List ℕ → ℕ → ℕ → Config → List ℕ → List ℕ → List ℕ → Outcome
 runOfGraph graph n d c logs records snapshots =
     outcomeOf (firstNo (runQuestions c (length logs) (length records))) (givenAs graph n d c) logs records snapshots

@@ -10,6 +10,7 @@
 --     RunBounds    bounds on the counts of every accepted run
 --     Coverage     the covered nodes of a round are those that took part
 --     SentPackets  the packets of every accepted run
+--     ShortRounds  what question 16 leaves, and what it rules out
 pub mod Run
 pub mod Networks
 pub mod Questions
@@ -21,3 +22,4 @@ pub mod NothingLost
 pub mod RunBounds
 pub mod Coverage
 pub mod SentPackets
+pub mod ShortRounds

@@ -7,8 +7,9 @@ use mathlib.Core.Option.{Option, none, some}
 use mathlib.Core.Path.{_≡_}
 use Rattle.network.specs.Graph.{widened}
 use Rattle.network.specs.Questions.{firstNo, nodesOf, rowsQuestions, topologyQuestions}
-use Rattle.network.specs.Topology.{topologyRows, topologyOf}
+use Rattle.network.specs.Topology.{topologyRows, topologyOf, graphOf}
 use Rattle.network.specs.Distance.{diameter}
+use Rattle.network.specs.declared.topology.BuiltGraph.{BuiltGraph}
 use Rattle.rules.specs.declared.networks.Extent.{Extent}
 use Rattle.rules.specs.declared.networks.Extent.the-variants.{Of, Refused}
 
@@ -34,6 +35,14 @@ rowsIn (ofTopology topology first second) = topologyRows (topologyOf topology se
 -- its graph: the rows as a run takes them
 abbrev pub graphIn : RowsOrTopology → List ℕ
 graphIn q = widened (rowsIn q) (nodesIn q)
+
+-- what building it answers, `checkedGraph` of rows and `builtGraph` of a topology: the number of nodes with the graph, or the refusal
+abbrev pub builtFor : RowsOrTopology → BuiltGraph
+builtFor q = graphOf (rowsIn q) (nodesIn q) (firstNo (networkQuestions q))
+
+-- it is what building some network answered
+abbrev pub BuiltAs : BuiltGraph → Type 0
+BuiltAs b = (q : RowsOrTopology) × (b ≡ builtFor q)
 
 -- What asking for a network answers, and what the array that was lent for its graph then holds.
 pub record Network : Type 0 where

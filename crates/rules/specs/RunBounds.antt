@@ -27,8 +27,9 @@ together s =
 -- The summary s of the run of g.
 pub record Bounds (g : Given) (s : Summary) : Type 0 where
   pub nodes : s .nodes ≡ g .nodes
-  -- at most P + 1,002 rounds, each of at most 4,096 slots
+  -- at most P + 1,002 rounds; over all of them at least as many slots a round as there are repeats, and at most 4,096
   pub rounds : s .rounds ≤ mostRounds (g .proposals)
+  pub slots-least : s .rounds * g .repeats ≤ s .slots
   pub slots : s .slots ≤ s .rounds * longest g
   pub round-slots : longest g ≤ maxRoundSlots
   pub slots-most : s .slots ≤ mostRounds maxTerms * maxRoundSlots

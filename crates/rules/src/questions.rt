@@ -9,14 +9,17 @@ use config::limits::RECORDS_SIZE;
 use network::questions::lies_in;
 ghost use mathlib.Core.Path.{_≡_};
 ghost use Rattle.network.specs.Questions.{firstNo};
-ghost use Rattle.rules.specs.Questions.{slotsAllowed, rateAllowed, configQuestions, bufferQuestions, runQuestions};
-ghost use Rattle.rules.specs.Answers.{refusalOf};
+ghost use Rattle.rules.specs.Questions.{slotsAllowed, slotsSuffice, rateAllowed, roundQuestions, otherQuestions, configQuestions, bufferQuestions, runQuestions};
+ghost use Rattle.rules.specs.Answers.{refusalOf, orElse};
 
 // The number of the first question that is answered "no", or none.
 pub enum Refusal {
     None,
     Number(u64),
 }
+
+// Question 16's number: the round is too short for a radio to reach sleep.
+pub const SHORT_ROUND: u64 = 16;
 
 // Question 6: absent, or 0 to 4,096.
 fn slots_allowed(slots: RoundSlots) -> bool
@@ -28,6 +31,16 @@ fn slots_allowed(slots: RoundSlots) -> bool
     }
 }
 
+// Question 16: absent, or at least the repeats.
+fn slots_suffice(repeats: u64, slots: RoundSlots) -> bool
+    ensures { λ r. ⌜ r ≡ slotsSuffice repeats slots ⌝ }
+{
+    match slots {
+        RoundSlots::Absent => true,
+        RoundSlots::Of(n) => repeats <= n,
+    }
+}
+
 // Question 7: at least 0 and below 1.
 fn rate_allowed(rate: f64) -> bool
     ensures { λ r. ⌜ r ≡ rateAllowed rate ⌝ }
@@ -35,9 +48,9 @@ fn rate_allowed(rate: f64) -> bool
     (0.0 <= rate) & (rate < 1.0)
 }
 
-// Questions 5 to 9, of the configuration.
-pub fn config_refusal(config: Config) -> Refusal
-    ensures { λ r. ⌜ refusalOf r ≡ firstNo (configQuestions config) ⌝ }
+// Questions 5, 6 and, just after 6, 16: of the length of a round.
+fn round_refusal(config: Config) -> Refusal
+    ensures { λ r. ⌜ refusalOf r ≡ firstNo (roundQuestions config) ⌝ }
 {
     if !lies_in(1, MAX_REPEATS, config.flood_repeats) {
         return Refusal::Number(5);
@@ -46,6 +59,16 @@ pub fn config_refusal(config: Config) -> Refusal
     if !slots_allowed(slots) {
         return Refusal::Number(6);
     }
+    if !slots_suffice(config.flood_repeats, slots) {
+        return Refusal::Number(SHORT_ROUND);
+    }
+    Refusal::None
+}
+
+// Questions 7 to 9: of all else in the configuration.
+pub fn other_refusal(config: Config) -> Refusal
+    ensures { λ r. ⌜ refusalOf r ≡ firstNo (otherQuestions config) ⌝ }
+{
     if !rate_allowed(config.loss_rate) {
         return Refusal::Number(7);
     }
@@ -58,6 +81,23 @@ pub fn config_refusal(config: Config) -> Refusal
     Refusal::None
 }
 
+// The first of two refusals, where the questions of the second come behind those of the first.
+pub fn first_refusal(first: Refusal, second: Refusal) -> Refusal
+    ensures { λ r. ⌜ refusalOf r ≡ orElse (refusalOf first) (refusalOf second) ⌝ }
+{
+    match first {
+        Refusal::Number(k) => Refusal::Number(k),
+        Refusal::None => second,
+    }
+}
+
+// Questions 5, 6, 16 and 7 to 9, of the configuration.
+pub fn config_refusal(config: Config) -> Refusal
+    ensures { λ r. ⌜ refusalOf r ≡ firstNo (configQuestions config) ⌝ }
+{
+    first_refusal(round_refusal(config), other_refusal(config))
+}
+
 // Question 10, for log and record buffers of these lengths.
 pub fn buffer_refusal(logs: usize, records: usize) -> Refusal
     ensures { λ r. ⌜ refusalOf r ≡ firstNo (bufferQuestions logs records) ⌝ }
@@ -68,13 +108,9 @@ pub fn buffer_refusal(logs: usize, records: usize) -> Refusal
     Refusal::Number(10)
 }
 
-// Questions 5 to 10.
+// The questions of the configuration, then 10.
 pub fn run_refusal(config: Config, logs: usize, records: usize) -> Refusal
     ensures { λ r. ⌜ refusalOf r ≡ firstNo (runQuestions config logs records) ⌝ }
 {
-    let refusal = config_refusal(config);
-    match refusal {
-        Refusal::Number(k) => Refusal::Number(k),
-        Refusal::None => buffer_refusal(logs, records),
-    }
+    first_refusal(config_refusal(config), buffer_refusal(logs, records))
 }

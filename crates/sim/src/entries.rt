@@ -17,7 +17,7 @@ ghost use Rattle.rules.specs.Answers.{outcome};
 ghost use Rattle.rules.specs.Entries.{runOfGraph, outcomeFor, runOfRows, runOfTopology};
 ghost use Rattle.rules.specs.Networks.{RowsOrTopology, network, networkFor, AskedFor};
 
-// A run of a graph that its own questions let pass: questions 5 to 10, then the run.
+// A run of a graph that its own questions let pass: those of the configuration and of the buffers, then the run.
 fn run_graph(
     graph: &[u64; MAX_NODES],
     nodes: usize,

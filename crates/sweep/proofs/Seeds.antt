@@ -31,6 +31,7 @@ module _ {graph : List ℕ} (p : Plan) (seed : ℕ) (ok : Accepted (planned grap
         repeats-low = ok .repeats-low;
         repeats-high = ok .repeats-high;
         round-slots = ok .round-slots;
+        slots-suffice = ok .slots-suffice;
         proposals = ok .proposals;
         interval = ok .interval;
       }

@@ -68,11 +68,11 @@ maxSeeds = 65536
 abbrev pub tableQuestions : ℕ → ℕ → List (Bool × ℕ)
 tableQuestions seeds table = (leb seeds maxSeeds && leb (sweptSize * seeds) table, 15) ∷ []
 
--- questions 5 to 9, then 15
+-- the questions of the configuration, then 15
 abbrev pub sweepQuestions : Config → ℕ → ℕ → List (Bool × ℕ)
 sweepQuestions c seeds table = configQuestions c ++ tableQuestions seeds table
 
--- the refusal of a sweep: the questions of the network, then 5 to 9, then 15
+-- the refusal of a sweep: the questions of the network, of the configuration, then 15
 unfoldable pub sweepRefusalFor : RowsOrTopology → Config → ℕ → ℕ → Option ℕ
 sweepRefusalFor q c seeds table = firstNo (networkQuestions q ++ sweepQuestions c seeds table)
 

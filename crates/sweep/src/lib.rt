@@ -20,6 +20,7 @@ use rules::networks::network_of_rows;
 use rules::networks::network_of_topology;
 use rules::questions::Refusal;
 use rules::questions::config_refusal;
+use rules::questions::first_refusal;
 use sim::outcome::summary_of;
 ghost use Prim.Native.Nat.{ℕ, _+_, _*_, _≤_};
 ghost use mathlib.Core.Path.{_≡_};
@@ -150,15 +151,11 @@ fn sweep_graph(graph: &[u64; MAX_NODES], plan: Plan, seeds: &[u64], table: &mut 
     sweep_over(graph, plan, seeds, &mut all, table)
 }
 
-// Questions 5 to 9, then 15.
+// The questions of the configuration, then 15.
 fn sweep_refusal(config: Config, seeds: usize, table: usize) -> Refusal
     ensures { λ r. ⌜ refusalOf r ≡ firstNo (sweepQuestions config seeds table) ⌝ }
 {
-    let refusal = config_refusal(config);
-    match refusal {
-        Refusal::Number(question) => Refusal::Number(question),
-        Refusal::None => table_refusal(seeds, table),
-    }
+    first_refusal(config_refusal(config), table_refusal(seeds, table))
 }
 
 // The sweep of the network that was asked for: its questions, then the runs.

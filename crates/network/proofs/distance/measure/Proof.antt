@@ -1,97 +1,61 @@
--- `network::distance::measure` meets its contract: the tests give questions 2 and 4, the copy of the first n rows is right and has the same diameter where the rows do.
--- Assumes nothing.
+-- `network::distance::measure` meets its contract: the rows that passed have the diameter of those that were given. Assumes nothing.
 use mathlib.Core.Path.{_≡_, sym, ap, subst, _∙_}
-use mathlib.Core.Bool.{true}
 use mathlib.Core.List.{List}
-use Prim.Native.Nat.{ℕ, _≤_, _<_}
-use lib.ListN.{getD}
-use borrow.Author.Tests.{not-true, not-false, le-leb, lt-leb}
-use Rattle.network.specs.Graph.{rowsRight, widened, Checked}
-use Rattle.config.specs.Limits.{minNodes, maxNodes}
-use Rattle.network.specs.Questions.{question4, within}
-use Rattle.network.specs.Distance.{diameter, measured}
-use Rattle.network.specs.declared.distance.Measured.the-variants.{Links}
-use Rattle.network.proofs.Within.{within-both}
-use Rattle.network.proofs.Rows.{getD-widened, length-widened}
-use Rattle.network.proofs.Checks.{right-agree, right-checked, agree-checked, diameter-agree}
+use mathlib.Core.Option.{none}
+use Prim.Native.Nat.{ℕ, _≤_}
 use borrow.Author.Needs.{needs}
+use denote.Ref.{now}
+use Rattle.config.specs.Limits.{maxNodes}
+use Rattle.network.specs.Graph.{widened, Checked}
+use Rattle.network.specs.Questions.{firstNo, rowsQuestions}
+use Rattle.network.specs.Distance.{diameter, measuredAs, measured}
+use Rattle.network.specs.declared.distance.Measured.the-variants.{Links}
+use Rattle.network.proofs.Built.{graph-refused, graph-found, rows-sized, wide-checked}
+use Rattle.network.proofs.Rows.{getD-widened}
+use Rattle.network.proofs.Checks.{diameter-agree}
 use Rattle.network.proofs.distance.measure.Statement.{statement}
 use Rattle.network.proofs.distance.measure.Tie as tie
 
-returns : tie.Need-returns
-unfolding measured
-returns c = rw (sym (c .before .lies-in .ensures) ∙ not-true _ (c .if1 .taken))
-
--- the entry, from where the rows are enough
-abbrev entry : tie.Else2 → tie.Start
-entry c = c .before .before .before .before
-
--- past question 2
-few : (c : tie.Else2) → (within minNodes maxNodes (entry c .args .n) ≡ true) × (entry c .args .n ≤ maxNodes)
-few c =
-    let e = sym (c .before .before .lies-in .ensures) ∙ not-false _ (c .before .if1 .left) in
-    (e, within-both 2 maxNodes (entry c .args .n) e .1)
-
--- the first n rows are those of their copy
-copied : (c : tie.Else2) → let a = entry c .args in (i : ℕ) → i < a .n → getD (a .rows .now) i 0 ≡ getD (widened (a .rows .now) (a .n)) i 0
-copied c i h = let a = entry c .args in sym (getD-widened (a .rows .now) (a .n) (c .if2 .left) i h)
-
-returns-2 : tie.Need-returns-2
-unfolding measured question4
-returns-2 c = rw (sym (c .before .before .lies-in .ensures) ∙ not-false _ (c .before .if1 .left), lt-leb _ _ (c .if2 .taken))
-
-widen-requires : tie.Need-widen-requires
-widen-requires c κs = (few c .1, c .if2 .left)
-
-rows-right-requires : tie.Need-rows-right-requires
-rows-right-requires c κs = few (c .before .before) .1
-
--- from the row check: where the rows are enough, the copy, and that its check is question 4 of the rows
-abbrev enough : tie.After-rows-right → tie.Else2
-enough c = c .before .before .before
-
-copy : (c : tie.After-rows-right) → let a = entry (enough c) .args in c .before .before .widen .result ≡ widened (a .rows .now) (a .n)
-copy c = c .before .before .widen .ensures
-
-verdict : (c : tie.After-rows-right) → let a = entry (enough c) .args in rowsRight (a .rows .now) (a .n) ≡ c .rows-right .result
-verdict c =
-    let a = entry (enough c) .args in
-    right-agree (a .rows .now) (widened (a .rows .now) (a .n)) (a .n) (copied (enough c))
-    ∙ ap (λ (l : List ℕ). rowsRight l (a .n)) (sym (copy c))
-    ∙ sym (c .rows-right .ensures)
-
-returns-3 : tie.Need-returns-3
-unfolding measured question4
-returns-3 c =
-    let q = enough (c .before) in
-    rw (few q .0, le-leb _ _ (q .if2 .left), verdict (c .before) ∙ not-true _ (c .if3 .taken))
+-- past questions 2 and 4: the nodes, and their rows
+found : (c : tie.After-answer2) → let g = c .before .before in let a = g .before .before .args in let n = c .answer2 .given .0 .0 in
+    (firstNo (rowsQuestions (now (a .rows)) (a .n)) ≡ none) × (n ≡ a .n) × (g .checked-graph .result .rows ≡ widened (now (a .rows)) (a .n))
+found c =
+    let g = c .before .before in
+    let a = g .before .before .args in
+    graph-found (now (a .rows)) (a .n) _ (g .checked-graph .result) (g .checked-graph .ensures) _ (c .answer2 .given .1)
 
 diameter-of-requires : tie.Need-diameter-of-requires
 diameter-of-requires c κs =
-    let r = c .before .before in
-    let q = enough r in
-    let a = entry q .args in (
-      few q .1,
-      subst (λ (l : List ℕ). Checked l (a .n)) (sym (copy r))
-          (agree-checked (a .rows .now) (widened (a .rows .now) (a .n)) (a .n) (copied q) (length-widened (a .rows .now) (a .n) (q .if2 .left))
-          (right-checked (a .rows .now) (a .n) (q .if2 .left) (verdict r ∙ not-false _ (c .before .if3 .left)))),
+    let m = c .before .before .before in
+    let a = m .before .before .before .before .args in
+    let f = found m in
+    let s = rows-sized (now (a .rows)) (a .n) (f .0) in
+    let n : ℕ = m .answer2 .given .0 .0 in (
+      subst (λ (k : ℕ). k ≤ maxNodes) (sym (f .1)) (s .0 .1),
+      subst (λ (l : List ℕ). Checked l n) (sym (f .2)) (subst (Checked (widened (now (a .rows)) (a .n))) (sym (f .1)) (wide-checked (now (a .rows)) (a .n) (s .1))),
     )
 
-returns-4 : tie.Need-returns-4
-unfolding measured question4
-returns-4 c =
-    let r = c .before .before .before in
-    let q = enough r in
-    let a = entry q .args in
-    rw (few q .0, le-leb _ _ (q .if2 .left), verdict r ∙ not-false _ (c .before .before .if3 .left))
-    (ap Links
+returns : tie.Need-returns
+unfolding measured
+returns c =
+    let g = c .before .before .before in
+    let a = g .before .before .args in
+    ap (measuredAs (diameter (now (a .rows)) (a .n)))
+    (sym (graph-refused (now (a .rows)) (a .n) (firstNo (rowsQuestions (now (a .rows)) (a .n))) (g .checked-graph .result) (g .checked-graph .ensures) _ (c .before .answer .given .1)))
+
+returns-2 : tie.Need-returns-2
+unfolding measured
+returns-2 c =
+    let m = c .before .before .before .before in
+    let a = m .before .before .before .before .args in
+    let rows : List ℕ = now (a .rows) in
+    let f = found m in
+    let s = rows-sized rows (a .n) (f .0) in
+    ap Links
     (c .diameter-of .ensures
-    ∙ ap (λ (l : List ℕ). diameter l (a .n)) (copy r)
-    ∙ sym (diameter-agree (a .rows .now) (widened (a .rows .now) (a .n)) (a .n) (copied q))))
+    ∙ (λ i. diameter (f .2 i) (f .1 i))
+    ∙ sym (diameter-agree rows (widened rows (a .n)) (a .n) (λ i h. sym (getD-widened rows (a .n) (s .1 .enough) i h))))
+    ∙ ap (measuredAs (diameter rows (a .n))) (sym (f .0))
 
 pub measure-spec : {M : Type 1} → statement M
-measure-spec =
-    tie.close
-    (tie.spec
-    (λ c κs. search needs) returns returns-2 widen-requires rows-right-requires returns-3
-    diameter-of-requires returns-4)
+measure-spec = tie.close (tie.spec (λ c κs. search needs) (λ c. search needs) (λ c. search needs) diameter-of-requires returns returns-2)

@@ -54,10 +54,11 @@ unfolding tenth
 returns-2 c =
     let g = c .before .before .before in
     let a = g .before .before .args in
+    let n = nodesOf (a .topology) (a .first) (a .second) in
     sym
-    (ap (answered (topologyOf (a .topology) (a .second)) (nodesOf (a .topology) (a .first) (a .second)) (a .out .now))
+    (ap (answered (topologyOf (a .topology) (a .second)) n (a .out .now))
     (first-no (topologyQuestions (a .topology) (a .first) (a .second)) (tenth (a .topology) (a .first) (a .second) (a .out .now)) _
-    (graph-refused (a .topology) (a .first) (a .second) (g .build-graph .result) (g .build-graph .ensures) _ (c .before .answer .given .1))))
+    (graph-refused (topologyRows (topologyOf (a .topology) (a .second)) n) n _ (g .build-graph .result) (g .build-graph .ensures) _ (c .before .answer .given .1))))
 
 -- the first rows in place are the topology's
 placed : {topology first second n : ℕ} {rows : List ℕ} → GraphBuilt topology first second n rows → (out : List ℕ) → take n rows ++ drop n out ≡ withRows (topologyOf topology second) n out

@@ -1,0 +1,3 @@
+-- Lemmas that several proofs of the crate use, and its laws.
+pub mod Refusals
+pub mod Laws
