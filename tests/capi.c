@@ -204,7 +204,7 @@ static void test_questions(struct run good)
     r = good; r.repeats = 65; refused(r, 5, "run: refused 5");
     r = good; r.given = 1; r.round_slots = 4097; refused(r, 6, "run: refused 6");
     r = good; r.given = 1; refused(r, 16, "run: round slots 0, refused 16");
-    r = good; r.repeats = 64; r.given = 1; r.round_slots = 63; refused(r, 16, "run: one below the repeats, refused 16");
+    r.repeats = 64; r.round_slots = 63; refused(r, 16, "run: one below the repeats, refused 16");
     r.loss = 1.0; refused(r, 16, "run: 16 comes before 7");
     r.repeats = 65; refused(r, 5, "run: 5 comes before 16");
     r = good; r.loss = 1.0; refused(r, 7, "run: loss 1, refused 7");
