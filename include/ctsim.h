@@ -1,12 +1,14 @@
 /*
  * ctsim: radios that flood one packet by constructive interference and agree on a log of proposals
- * by a pipelined Paxos. Sixteen entries: draws, rows, diameter, three ratios, two runs, two previews
- * of one round, a writer and a reader of a packet's text, two sweeps of many seeds, and two that say
- * whether a configuration that was filed earlier would still be run.
+ * by a pipelined Paxos. Nineteen entries: draws, rows, diameter, three ratios, two runs, two previews
+ * of one round, a writer and a reader of a packet's text, two sweeps of many seeds, two that say
+ * whether a configuration that was filed earlier would still be run, and a writer, a reader and a check
+ * of archive files.
  *
  * Build the library with `rt staticlib capi` and link target/staticlib/libcapi.a. It is for x86-64
  * Linux. It keeps nothing between calls, so that threads may call it at the same time. A run, a
- * preview or a sweep takes about 60,000 bytes of the caller's stack.
+ * preview or a sweep takes about 60,000 bytes of the caller's stack, and a check of an archive file at
+ * most about 250,000, whatever the file's length.
  *
  * Results. Every entry returns 0 if it is done, else a number of `enum ctsim_result`. Where it
  * returns another number than 0, it has written nothing.
@@ -37,7 +39,7 @@
 extern "C" {
 #endif
 
-/* What an entry returns. 1 to 11 and 13 to 16 are the questions, asked in the order of their numbers, but
+/* What an entry returns. 1 to 11 and 13 to 18 are the questions, asked in the order of their numbers, but
  * 16 just after 6; the first "no" is told, except by ctsim_validity_topology and ctsim_validity_rows, which
  * pass over 16 where another question refuses too. 12 is of the program alone. 100 and above are of these
  * entries alone; 100 is asked before the questions. */
@@ -59,8 +61,13 @@ enum ctsim_result {
     CTSIM_REFUSED_SWEEP = 15,       /* more than 65,536 seeds, or not seven places for each */
     CTSIM_REFUSED_SHORT_ROUND = 16, /* the round slots are given and below the repeats: no node could
                                        reach sleep */
-    CTSIM_SHORT = 100,              /* a slice for a summary, a packet or a single result is too short */
-    CTSIM_NO_RATIO = 101            /* no refusal: there is no ratio, as the second count is 0 */
+    CTSIM_REFUSED_LAYOUT = 17,      /* the first byte, the directory or a length of the file is not as it
+                                       should be */
+    CTSIM_REFUSED_FILE = 18,        /* the bytes for the file are fewer than the file has */
+    CTSIM_SHORT = 100,              /* a slice for a summary, a packet, sections or a single result is too
+                                       short */
+    CTSIM_NO_RATIO = 101,           /* no refusal: there is no ratio, as the second count is 0 */
+    CTSIM_NO = 102                  /* no refusal: the file is not what the writer makes of its inputs */
 };
 
 enum ctsim_topology {
@@ -81,6 +88,8 @@ enum ctsim_length {
     CTSIM_PACKET_LENGTH = 13,
     CTSIM_TEXT_LENGTH = 366, /* no text is longer: each fits into that many bytes */
     CTSIM_SWEPT_LENGTH = 7,  /* for each seed of a sweep */
+    CTSIM_PARTS_LENGTH = 10, /* offset and length of each section of a file */
+    CTSIM_FILE_LENGTH = 3857, /* the most bytes of a file without snapshots; each takes 40 more */
     CTSIM_MAX_SEEDS = 65536
 };
 
@@ -368,6 +377,48 @@ uint64_t ctsim_validity_rows(const uint32_t *rows, size_t rows_length, uint64_t 
                              uint64_t repeats, uint64_t round_slots_given, uint64_t round_slots,
                              double loss, uint64_t seed,
                              uint64_t proposals, uint64_t interval, uint64_t limit);
+
+/*
+ * Runs a topology as ctsim_run_topology does, and files the run: its inputs, the first fifteen numbers
+ * of its summary, its records, the snapshots that were stored and its logs. docs/ARCHIVE.md has the
+ * format byte by byte.
+ *   topology to limit         as for ctsim_run_topology
+ *   logs, records, snapshots  as for ctsim_run_topology: afterwards they are as it leaves them, and
+ *                             snapshots that don't fit are not in the file
+ *   file                      the file, from its first byte on. CTSIM_FILE_LENGTH + 40 * (snapshots_length
+ *                             / 5) bytes are always enough, and spare a run that only counts. Bytes behind
+ *                             the file keep what they held
+ *   written                   at least 1 place: written[0] is the number of the file's bytes
+ * Returns 0, 1, 2, 3, 5 to 10, 16, 18, or 100. 18 comes behind the others; nothing is written with it either.
+ */
+uint64_t ctsim_file_topology(uint64_t topology, uint64_t first, uint64_t second,
+                             uint64_t repeats, uint64_t round_slots_given, uint64_t round_slots,
+                             double loss, uint64_t seed,
+                             uint64_t proposals, uint64_t interval, uint64_t limit,
+                             uint8_t *logs, size_t logs_length,
+                             uint64_t *records, size_t records_length,
+                             uint64_t *snapshots, size_t snapshots_length,
+                             uint8_t *file, size_t file_length,
+                             uint64_t *written, size_t written_length);
+
+/*
+ * Tells where the five sections of an archive file stand: inputs, totals, records, snapshots, logs.
+ *   file   the whole file
+ *   parts  at least 10 places: parts[2 * i] is the offset of section i's first byte in the file, and
+ *          parts[2 * i + 1] how many bytes it has. All of them lie within the file
+ * Returns 0, 17 or 100. What the sections hold is not looked at.
+ */
+uint64_t ctsim_file_sections(const uint8_t *file, size_t file_length,
+                             uint64_t *parts, size_t parts_length);
+
+/*
+ * Checks an archive file: runs its first section afresh and compares what comes out with the other
+ * four. It takes one run's time, whatever the number of snapshots.
+ * Returns 0 if the file is byte for byte what ctsim_file_topology makes of its inputs with room for as
+ * many snapshots; 17 if it breaks the layout; else 102 (CTSIM_NO), also where a run of its inputs is
+ * refused.
+ */
+uint64_t ctsim_file_check(const uint8_t *file, size_t file_length);
 
 #ifdef __cplusplus
 }

@@ -34,6 +34,15 @@ use Rattle.wire_reader.specs.Reading.{reading, nothingBehind}
 use Rattle.wire_reader.specs.declared.Reading.{Reading}
 use Rattle.preview.specs.declared.Preview.{Preview}
 use Rattle.preview.specs.Preview.{previewAs, previewIn, previewUnless, previewFor}
+use Rattle.phy.specs.Snapshots.{snapshotRoom}
+use Rattle.archive.specs.declared.inputs.Inputs.{Inputs}
+use Rattle.archive.specs.Bytes.{sameBytes}
+use Rattle.archive.specs.Layout.{layout, brokenLayout}
+use Rattle.archive_writer.specs.declared.Written.{Written}
+use Rattle.archive_writer.specs.Filed.{networkIn, made}
+use Rattle.archive_writer.specs.Filing.{fileQuestions, filingRefusal, filingUnless, filingFor}
+use Rattle.archive_check.specs.declared.Checked.{Checked}
+use Rattle.archive_check.specs.Check.{askedIn, storedIn, checkedUnless, checkOf}
 use Rattle.sweep.specs.declared.Sweep.{Sweep}
 use Rattle.sweep.specs.Sweep.{summaryFor, sweepQuestions, sweepRefusalFor, sweptUnless, sweepFor}
 
@@ -121,3 +130,28 @@ packet-numbered t k e = go (packet t) e
     go none p = cc
     go (some (x, [])) p = let z : _≡_ {A = ℕ} 0 1 = cc in absurd (omega arith)
     go (some (x, b ∷ u)) p = cc
+
+-- so is a refusal of the writer of files, and the check refuses by 17 alone
+pub file-numbered : (x : Inputs) (logs records snapshots file : List ℕ) (k : ℕ) → filingFor x logs records snapshots file .answer ≡ Written.Refused k → within 1 99 k ≡ true
+unfolding filingFor filingRefusal
+file-numbered x logs records snapshots file k e =
+    first-numbered below100
+    (networkQuestions (networkIn x) ++ runQuestions (x .config) (length logs) (length records) ++ fileQuestions (made x (snapshotRoom snapshots)) (length file)) k refl
+    (go _ e)
+  where
+    go : (o : Option ℕ) → filingUnless o x logs records snapshots file .answer ≡ Written.Refused k → o ≡ some k
+    go none p = let z : _≡_ {A = ℕ} 0 1 = cc in absurd (omega arith)
+    go (some j) p = cc
+
+pub check-numbered : (file : List ℕ) (k : ℕ) → checkOf file ≡ Checked.Refused k → k ≡ brokenLayout
+unfolding checkOf
+check-numbered file k e = kept (layout file) (refusalFor (networkIn (askedIn file)) (askedIn file .config)) e
+  where
+    answered-so : (b : Bool) → cond b Checked.Yes Checked.No ≡ Checked.Refused k → k ≡ brokenLayout
+    answered-so true p = let z : _≡_ {A = ℕ} 0 1 = cc in absurd (omega arith)
+    answered-so false p = let z : _≡_ {A = ℕ} 0 1 = cc in absurd (omega arith)
+
+    kept : (b : Bool) (o : Option ℕ) → cond b (checkedUnless o file) (Checked.Refused brokenLayout) ≡ Checked.Refused k → k ≡ brokenLayout
+    kept false o p = cc
+    kept true none p = answered-so (sameBytes file (made (askedIn file) (storedIn file))) p
+    kept true (some j) p = let z : _≡_ {A = ℕ} 0 1 = cc in absurd (omega arith)

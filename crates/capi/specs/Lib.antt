@@ -1,2 +1,3 @@
 -- What is right for the crate `capi`.
 pub mod Capi
+pub mod Files

@@ -1,5 +1,6 @@
 // The entries for programs in C. Each takes numbers and slices alone, where a slice is a pointer and a length in C, and
 // returns 0 or the number of the refusal, which leaves every slice as it was. `include/ctsim.h` declares them.
+pub mod files;
 pub mod sweeps;
 pub mod validities;
 

@@ -1,5 +1,6 @@
 // What a run is asked to do, after ctsim's config.rs, and the limits of what may be asked.
 pub mod limits;
+pub mod rate;
 
 // The configured length limit of a round, or none.
 pub enum RoundSlots {

@@ -2,4 +2,3 @@
 pub mod Chain
 pub mod Fields
 pub mod Long
-pub mod Rates

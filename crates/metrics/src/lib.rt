@@ -2,3 +2,4 @@
 pub mod ratio;
 pub mod ratios;
 pub mod summary;
+pub mod totals;

@@ -1,8 +1,8 @@
--- Snapshots are taken exactly at the multiples of the interval, so their number is the slots divided by the interval, rounded up.
--- Assumes nothing.
+-- Snapshots are taken exactly at the multiples of the interval, so their number is the slots divided by the interval, rounded up. Those that
+-- were taken stay, and at most one is added a slot. Assumes nothing.
 use Prim.Native.Nat.{ℕ, suc, _+_, _-_, _*_, _/_, _%_, _≤_, _<_}
-use mathlib.Core.Path.{_≡_, sym, ap, subst, _∙_}
-use mathlib.Core.List.{List, [], _∷_, _++_}
+use mathlib.Core.Path.{_≡_, refl, sym, ap, subst, _∙_}
+use mathlib.Core.List.{List, [], _∷_, _++_, append-nil, append-assoc}
 use mathlib.Core.Logic.{⊎-elim}
 use native.Mathlib.Nat.{eq-or-lt-of-le, div-eq-of-lt-le, div-eq-of-eq-mul-left, div-add-mod', zero-mul, mul-mod-left}
 use native.Mathlib.Omega.{arith}
@@ -62,6 +62,14 @@ module _ (interval : ℕ) (shot : ℕ → List ℕ) (slot : ℕ) (x : Shots) (po
   pub none-at : (slot % interval ≡ 0 → ⊥) → takeWhile interval shot slot (suc slot) x ≡ x
   none-at ne = ⊎-elim (λ e. absurd (ne (next-multiple interval slot x pos due (sym e)))) none-taken (eq-or-lt-of-le (due .ahead))
 
+  -- so what was taken stays, and at most one is added
+  grown-slot : (more : List (List ℕ)) × (takeWhile interval shot slot (suc slot) x .taken ≡ x .taken ++ more) × (length more ≤ 1)
+  grown-slot =
+      ⊎-elim
+      (λ e. (shot (x .next) ∷ [], ap (λ (y : Shots). y .taken) (one-taken (sym e)) ∙ unfold takeOne in refl, omega arith))
+      (λ h. ([], ap (λ (y : Shots). y .taken) (none-taken h) ∙ sym (append-nil (x .taken)), omega arith))
+      (eq-or-lt-of-le (due .ahead))
+
   -- after the slot it holds of the next one
   pub due-slot : Due interval (slot + 1) (takeWhile interval shot slot (suc slot) x)
   due-slot =
@@ -85,3 +93,35 @@ pub due-round : (g : Setup) (longest initiator : ℕ) (packet : Packet) (s : Sta
     → Due (g .interval) (s .slot) (s .shots) → Due (g .interval) (round g longest initiator packet s .after .slot) (round g longest initiator packet s .after .shots)
 unfolding round
 due-round g longest initiator packet s pos due = due-slots g pos longest (withNodes (begun (g .nodes) (g .repeats) initiator packet (s .nodes)) s) due
+
+-- ---- what was taken stays, and at most one is added a slot
+pub record Grown (s t : Standing) : Type 0 where
+  pub more : List (List ℕ)
+  pub grows : t .shots .taken ≡ s .shots .taken ++ more
+  pub few : s .slot + length more ≤ t .slot
+
+pub grown-none : (s : Standing) → Grown s s
+grown-none s = record { more = []; grows = sym (append-nil (s .shots .taken)); few = omega arith }
+
+pub grown-then : {s t u : Standing} → Grown s t → Grown t u → Grown s u
+grown-then {s} a b =
+    record {
+      more = a .more ++ b .more;
+      grows = b .grows ∙ ap (λ (l : List (List ℕ)). l ++ b .more) (a .grows) ∙ append-assoc (s .shots .taken) (a .more) (b .more);
+      few = omega (arith, a .few, b .few, length-append (a .more) (b .more));
+    }
+
+grown-step : (g : Setup) (s : Standing) → 1 ≤ g .interval → Due (g .interval) (s .slot) (s .shots) → Grown s (slotStep g s)
+unfolding slotStep
+grown-step g s pos due =
+    let one = grown-slot (g .interval) _ (s .slot) (s .shots) pos due in
+    record { more = one .0; grows = one .1; few = omega (arith, one .2) }
+
+pub grown-round : (g : Setup) (longest initiator : ℕ) (packet : Packet) (s : Standing) → 1 ≤ g .interval
+    → Due (g .interval) (s .slot) (s .shots) → Grown s (round g longest initiator packet s .after)
+unfolding round
+grown-round g longest initiator packet s pos due =
+    let first : Standing = withNodes (begun (g .nodes) (g .repeats) initiator packet (s .nodes)) s in
+    let r = along-slots g (λ s t. Due (g .interval) (s .slot) (s .shots) → Grown s t) (λ s d. grown-none s)
+    (λ s t more d. grown-then (grown-step g s pos d) (more (due-step g s pos d))) longest first due in
+    record { more = r .more; grows = r .grows; few = r .few }

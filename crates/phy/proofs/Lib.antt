@@ -20,6 +20,7 @@ pub mod Reached
 pub mod Wave
 pub mod Lossless
 pub mod Due
+pub mod Fives
 pub mod Lent
 pub mod Through
 pub mod Element

@@ -1,6 +1,6 @@
 -- Snapshots: where they are stored, and when they are due. Assumes nothing.
-use Prim.Native.Nat.{ℕ, zero, suc, _+_, _*_, _^_, _≤_, _<_}
-use mathlib.Core.Path.{_≡_, refl, sym, ap, ap₂, subst, _∙_}
+use Prim.Native.Nat.{ℕ, zero, suc, _+_, _-_, _*_, _^_, _≤_, _<_}
+use mathlib.Core.Path.{_≡_, refl, sym, ap, ap₂, subst, subst⁻¹, _∙_}
 use mathlib.Core.Bool.{true, false}
 use mathlib.Core.List.{List, [], _∷_, _++_, flatten, append-assoc, append-nil}
 use mathlib.Core.Logic.{⊎-elim}
@@ -8,8 +8,8 @@ use native.Mathlib.Nat.{add-zero, suc-mul, zero-mul, le-mul-of-pos-right}
 use native.Mathlib.Numerals.{add-one, add-two, add-three, add-four}
 use native.Mathlib.Omega.{arith}
 use lib.Dec.{leb}
-use lib.ListN.{length, set, take, length-append}
-use lib.Seq.{sets, length-sets, take-all, take-nil, take-append-le}
+use lib.ListN.{length, set, take, drop, length-append, length-drop}
+use lib.Seq.{sets, length-sets, take-all, take-nil, take-append-le, drop-append-le, drop-length}
 use borrow.Author.Tests.{le-leb, lt-leb, leb-true, leb-false}
 use Rattle.config.specs.Limits.{snapshotSize}
 use Rattle.network.proofs.Sets.{two}
@@ -37,10 +37,22 @@ unfolding snapshotsWith
 length-with b shots = length-sets b 0 (flatten (take (snapshotRoom b) shots))
 
 -- as a run begins
-pub scheduled-none : (b : List ℕ) → Scheduled 0 0 b b (record { next = 0; taken = [] })
+pub scheduled-none : (b : List ℕ) → Scheduled 0 0 0 b b (record { next = 0; taken = [] })
 unfolding snapshotsWith flatten
 scheduled-none b =
     record { due = refl; number = refl; stored = sym (ap (λ (l : List (List ℕ)). sets b 0 (flatten l)) (take-nil (snapshotRoom b))); whole = refl }
+
+-- what is stored so far is left to the buffer, and those from here on are stored
+pub scheduled-anew : {first next count : ℕ} {b₀ b : List ℕ} {x : Shots} → Scheduled first next count b₀ b x → Scheduled count next count b b x
+unfolding snapshotsWith flatten
+scheduled-anew {count = count} {b = b} {x = x} r =
+    let none : drop count (x .taken) ≡ [] = ap (λ (k : ℕ). drop k (x .taken)) (r .number) ∙ drop-length (x .taken) in
+    record {
+      due = r .due;
+      number = r .number;
+      stored = sym (ap (λ (l : List (List ℕ)). sets b 0 (flatten l)) (ap (take (snapshotRoom b)) none ∙ take-nil (snapshotRoom b)));
+      whole = subst⁻¹ (λ (l : List (List ℕ)). length (flatten l) ≡ snapshotSize * length l) none refl;
+    }
 
 -- one snapshot more
 module _ (b₀ : List ℕ) {b : List ℕ} (shots : List (List ℕ)) (shot : List ℕ) (five : length shot ≡ snapshotSize) (are : b ≡ snapshotsWith b₀ shots)
@@ -86,17 +98,19 @@ module _ (interval : ℕ) (shot : ℕ → List ℕ) (slot : ℕ) where
   one-due most x h = rw (takeWhile, le-leb (x .next) slot h)
 
 -- one is taken, and the code stores it
-pub scheduled-one : (interval : ℕ) (shot : ℕ → List ℕ) {next count : ℕ} {b₀ b b' : List ℕ} {x : Shots} → length (shot next) ≡ snapshotSize
-    → Scheduled next count b₀ b x → Stores count (shot next) b b' → Scheduled (next + interval) (count + 1) b₀ b' (takeOne interval shot x)
+pub scheduled-one : (interval : ℕ) (shot : ℕ → List ℕ) {first next count : ℕ} {b₀ b b' : List ℕ} {x : Shots} → length (shot next) ≡ snapshotSize → first ≤ count
+    → Scheduled first next count b₀ b x → Stores (count - first) (shot next) b b' → Scheduled first (next + interval) (count + 1) b₀ b' (takeOne interval shot x)
 unfolding takeOne
-scheduled-one interval shot {next} {count} {b₀} {b} {b'} {x} five r s =
+scheduled-one interval shot {first} {next} {count} {b₀} {b} {b'} {x} five h r s =
     let five' : length (shot (x .next)) ≡ snapshotSize = subst (λ (k : ℕ). length (shot k) ≡ snapshotSize) (r .due) five in
-    let s' : Stores (length (x .taken)) (shot (x .next)) b b' = subst (λ (k : ℕ). Stores (length (x .taken)) (shot k) b b') (r .due) (subst (λ (k : ℕ). Stores k (shot next) b b') (r .number) s) in
+    let before : count - first ≡ length (drop first (x .taken)) = omega (arith, r .number, length-drop first (x .taken)) in
+    let s' : Stores (length (drop first (x .taken))) (shot (x .next)) b b' = subst (λ (k : ℕ). Stores (length (drop first (x .taken))) (shot k) b b') (r .due) (subst (λ (k : ℕ). Stores k (shot next) b b') before s) in
+    let more : drop first (x .taken ++ (shot (x .next) ∷ [])) ≡ drop first (x .taken) ++ (shot (x .next) ∷ []) = drop-append-le first (x .taken) (shot (x .next) ∷ []) (omega (arith, r .number)) in
     record {
       due = ap (λ (k : ℕ). k + interval) (r .due);
       number = omega (arith, r .number, length-append (x .taken) (shot (x .next) ∷ []));
-      stored = stored-more b₀ (x .taken) (shot (x .next)) five' (r .stored) (r .whole) s';
-      whole = whole-more b₀ (x .taken) (shot (x .next)) five' (r .stored) (r .whole);
+      stored = stored-more b₀ (drop first (x .taken)) (shot (x .next)) five' (r .stored) (r .whole) s' ∙ ap (snapshotsWith b₀) (sym more);
+      whole = subst⁻¹ (λ (l : List (List ℕ)). length (flatten l) ≡ snapshotSize * length l) more (whole-more b₀ (drop first (x .taken)) (shot (x .next)) five' (r .stored) (r .whole));
     }
 
 -- the next snapshot slot is a multiple of the interval, so it moves only where there is room

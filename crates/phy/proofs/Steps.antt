@@ -243,7 +243,7 @@ module _ (n : ℕ) {x : Radios} {b₀ b : List ℕ} {s : Standing} {seen : Shown
 module _ (g : Settings) (rows : List ℕ) (heard : ℕ → Bool) (p : ℕ) (x : Radios) (t : Tables) (b₀ : List ℕ) (s : Standing) (here : InSlot g p x t b₀ s)
     (seen : Shown) (seen-is : seen ≡ shownOf (g .nodes) (g .progress) (ones (x .listening)) (ones (x .flooding)))
     (taken : Schedule) (b' : List ℕ)
-    (takes : TakesDue (g .interval) (x .slot .0) seen (record { next = record { 0 = x .«next_snapshot» .0 }; count = x .snapshots }) (t .snapshots) taken b')
+    (takes : TakesDue (g .interval) (x .slot .0) seen (x .«first_stored») (record { next = record { 0 = x .«next_snapshot» .0 }; count = x .snapshots }) (t .snapshots) taken b')
     (tried : Tried)
     (tried-is : triesOf tried ≡ attemptAll heard (record { attempts = x .attempts; successes = x .successes; reached = 0 }) (receiversOf rows (g .nodes) (x .flooding) (x .listening)))
     (r : Awake) (e' : List ℕ) (advances : Advances p (tried .reached) (record { listening = x .listening; flooding = x .flooding }) (t .queue) r e') where
@@ -324,6 +324,7 @@ module _ (g : Settings) (rows : List ℕ) (heard : ℕ → Bool) (p : ℕ) (x : 
         slot = record { 0 = x .slot .0 + 1 };
         «next_snapshot» = record { 0 = taken .next .0 };
         snapshots = taken .count;
+        «first_stored» = x .«first_stored»;
       }
 
   stands-there : Stands n after b₀ b' there

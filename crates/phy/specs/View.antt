@@ -5,7 +5,7 @@ use mathlib.Core.List.{List, [], _∷_, flatten}
 use mathlib.Core.Path.{_≡_}
 use lib.Bits.{bitAnd, bitOr}
 use lib.Dec.{eqb, ltb}
-use lib.ListN.{length, getD, set}
+use lib.ListN.{length, getD, set, drop}
 use lib.Seq.{sets}
 use lib.Ieee.{Float}
 use Rattle.config.specs.Limits.{maxNodes, maxRepeats, snapshotSize, countBound}
@@ -78,18 +78,20 @@ pub record Stores (count : ℕ) (shot b b' : List ℕ) : Type 0 where
   pub fits : snapshotSize * count + snapshotSize ≤ length b → b' ≡ sets b (snapshotSize * count) shot
   pub full : length b < snapshotSize * count + snapshotSize → b' ≡ b
 
--- The slot of the next snapshot and the count are those of the definitions, and the buffer, b₀ as the run began, is b.
-pub record Scheduled (next count : ℕ) (b₀ b : List ℕ) (x : Shots) : Type 0 where
+-- The slot of the next snapshot and the count are those of the definitions. The buffer is b, and was b₀ before the snapshots from the number
+-- `first` on were stored.
+pub record Scheduled (first next count : ℕ) (b₀ b : List ℕ) (x : Shots) : Type 0 where
   pub due : next ≡ x .next
   pub number : count ≡ length (x .taken)
-  pub stored : b ≡ snapshotsWith b₀ (x .taken)
-  pub whole : length (flatten (x .taken)) ≡ snapshotSize * length (x .taken)
+  pub stored : b ≡ snapshotsWith b₀ (drop first (x .taken))
+  pub whole : length (flatten (drop first (x .taken))) ≡ snapshotSize * length (drop first (x .taken))
 
 -- the snapshots that are due by this slot are taken, those at the multiples of the interval
-pub record TakesDue (interval slot : ℕ) (seen : Shown) (y : Schedule) (b : List ℕ) (r : Schedule) (b' : List ℕ) : Type 0 where
+pub record TakesDue (interval slot : ℕ) (seen : Shown) (first : ℕ) (y : Schedule) (b : List ℕ) (r : Schedule) (b' : List ℕ) : Type 0 where
   pub multiple : r .next .0 ≡ r .count * interval
-  pub scheduled : (b₀ : List ℕ) (x : Shots) → Scheduled (y .next .0) (y .count) b₀ b x
-      → Scheduled (r .next .0) (r .count) b₀ b' (takeWhile interval (shotOf seen) slot (suc slot) x)
+  pub more : y .count ≤ r .count
+  pub scheduled : (b₀ : List ℕ) (x : Shots) → Scheduled first (y .next .0) (y .count) b₀ b x
+      → Scheduled first (r .next .0) (r .count) b₀ b' (takeWhile interval (shotOf seen) slot (suc slot) x)
 
 -- ---- a slot
 -- the nodes after a slot in which the nodes of a set heard, and after which the nodes of another have no repeats left
@@ -116,7 +118,7 @@ pub record Queued (n repeats : ℕ) (e : List ℕ) (p : ℕ) (nodes : List Node)
   pub left : (j : ℕ) → j < n → isFlooding (at nodes j) ≡ true → (1 ≤ at nodes j .«flood_remaining») × (at nodes j .«flood_remaining» ≤ repeats)
   pub stand : (i j : ℕ) → i < repeats → j < n → has (getD e (placeAfter repeats p i) 0) j ≡ isFlooding (at nodes j) && eqb (at nodes j .«flood_remaining») (i + 1)
 
--- The code stands at x, with the snapshots b, where the definitions stand at s. As the run began the buffer was b₀.
+-- The code stands at x, with the snapshots b, where the definitions stand at s. Before the first that is stored the buffer was b₀.
 pub record Stands (n : ℕ) (x : Radios) (b₀ b : List ℕ) (s : Standing) : Type 0 where
   pub listening : x .listening ≡ setOf n (λ (j : ℕ). isListening (at (s .nodes) j))
   pub flooding : x .flooding ≡ setOf n (λ (j : ℕ). isFlooding (at (s .nodes) j))
@@ -129,7 +131,7 @@ pub record Stands (n : ℕ) (x : Radios) (b₀ b : List ℕ) (s : Standing) : Ty
   pub attempts : x .attempts ≡ s .attempts
   pub successes : x .successes ≡ s .successes
   pub slot : x .slot .0 ≡ s .slot
-  pub shots : Scheduled (x .«next_snapshot» .0) (x .snapshots) b₀ b (s .shots)
+  pub shots : Scheduled (x .«first_stored») (x .«next_snapshot» .0) (x .snapshots) b₀ b (s .shots)
 
 -- so it stands in a slot, with the queue from place p on
 pub record InSlot (g : Settings) (p : ℕ) (x : Radios) (t : Tables) (b₀ : List ℕ) (s : Standing) : Type 0 where
@@ -152,12 +154,14 @@ pub record Sound (g : Settings) (x : Radios) : Type 0 where
   pub attempts : x .attempts ≤ slotAttempts * x .slot .0
   pub successes : x .successes ≤ slotAttempts * x .slot .0
   pub next : x .«next_snapshot» .0 ≡ x .snapshots * g .interval
+  pub stored : x .«first_stored» ≤ x .snapshots
 
 -- From x, with the queue from place p on, the code came to r in one slot, and what held between slots holds again. For all receptions that
 -- the stream is a source of, it still is one, and the code stands where the slot of the definitions leads.
 pub record Stepped (g : Settings) (rows : List ℕ) (p : ℕ) (x : Radios) (t : Tables) (r : Radios) (t' : Tables) : Type 0 where
   pub sound : Sound g r
   pub slots : r .slot .0 ≡ x .slot .0 + 1
+  pub first : r .«first_stored» ≡ x .«first_stored»
   pub source : (heard : ℕ → Bool) → Source (g .rate) heard (x .attempts) (t .stream) → Source (g .rate) heard (r .attempts) (t' .stream)
   pub stands : (heard : ℕ → Bool) → Source (g .rate) heard (x .attempts) (t .stream)
       → (b₀ : List ℕ) (s : Standing) → InSlot g p x t b₀ s
@@ -167,6 +171,7 @@ pub record Stepped (g : Settings) (rows : List ℕ) (p : ℕ) (x : Radios) (t : 
 pub record Slotted (g : Settings) (rows : List ℕ) (longest : ℕ) (x : Radios) (t : Tables) (r : Radios) (t' : Tables) : Type 0 where
   pub sound : Sound g r
   pub slots : r .slot .0 ≤ x .slot .0 + longest
+  pub first : r .«first_stored» ≡ x .«first_stored»
   pub room : g .repeats ≤ length (t' .queue)
   pub source : (heard : ℕ → Bool) → Source (g .rate) heard (x .attempts) (t .stream) → Source (g .rate) heard (r .attempts) (t' .stream)
   pub stands : (heard : ℕ → Bool) → Source (g .rate) heard (x .attempts) (t .stream)
@@ -188,6 +193,7 @@ begunFlood n first x =
       slot = x .slot;
       «next_snapshot» = x .«next_snapshot»;
       snapshots = x .snapshots;
+      «first_stored» = x .«first_stored»;
     }
 
 -- what beginning a round needs
@@ -223,6 +229,7 @@ pub record CanFlood (g : Settings) (longest initiator : ℕ) (x : Radios) (t : T
 pub record Rounded (g : Settings) (rows : List ℕ) (longest initiator : ℕ) (x : Radios) (t : Tables) (r : Round) (t' : Tables) : Type 0 where
   pub sound : Sound g (r .flood)
   pub slots : r .flood .slot .0 ≤ x .slot .0 + longest
+  pub first : r .flood .«first_stored» ≡ x .«first_stored»
   pub room : g .repeats ≤ length (t' .queue)
   pub source : (heard : ℕ → Bool) → Source (g .rate) heard (x .attempts) (t .stream) → Source (g .rate) heard (r .flood .attempts) (t' .stream)
   pub stands : (heard : ℕ → Bool) → Source (g .rate) heard (x .attempts) (t .stream)

@@ -45,7 +45,8 @@ pub struct Tried {
 }
 
 // Where the radios of a run stand: the sets of the nodes that listen and that flood, and the slots that all
-// nodes have spent in each state. The stream of the draws stands in a lent table.
+// nodes have spent in each state. Of the snapshots, those from the number `first_stored` on go into a lent
+// slice. The stream of the draws stands in a lent table.
 pub struct Radios {
     pub listening: u64,
     pub flooding: u64,
@@ -57,6 +58,7 @@ pub struct Radios {
     pub slot: Slot,
     pub next_snapshot: Slot,
     pub snapshots: u64,
+    pub first_stored: u64,
 }
 
 // One attempt at node j.
@@ -173,7 +175,8 @@ pub fn slot(
         next,
         count: x.snapshots,
     };
-    let taken = take_snapshots(this, settings.interval, seen, due, snapshots);
+    let first = x.first_stored;
+    let taken = take_snapshots(this, settings.interval, seen, due, first, snapshots);
     let untried = Tried {
         attempts: x.attempts,
         successes: x.successes,
@@ -198,5 +201,6 @@ pub fn slot(
         slot: Slot(this.0 + 1),
         next_snapshot,
         snapshots: taken.count,
+        first_stored: first,
     }
 }

@@ -20,7 +20,7 @@ pub struct Schedule {
     pub count: u64,
 }
 
-// Stores the snapshot of that number, if it fits whole.
+// Stores a snapshot behind `count` others, if it fits whole.
 fn take_snapshot(slot: Slot, shown: Shown, count: u64, snapshots: &mut [u64])
     ensures { λ _. ⌜ Stores count (shotOf shown (slot .0)) (now (snapshots .entry)) (now (snapshots .exit)) ⌝ }
 {
@@ -35,22 +35,23 @@ fn take_snapshot(slot: Slot, shown: Shown, count: u64, snapshots: &mut [u64])
     }
 }
 
-// Takes the snapshots that are due by this slot.
+// Takes the snapshots that are due by this slot. Those from the number `first` on are stored, from the slice's start on.
 pub fn take_snapshots(
     slot: Slot,
     interval: u64,
     shown: Shown,
     schedule: Schedule,
+    first: u64,
     snapshots: &mut [u64],
 ) -> Schedule
-    requires { ⌜ (1 ≤ interval) × (slot .0 < 2 ^ 62) × (schedule .next .0 ≡ schedule .count * interval) ⌝ }
-    ensures { λ r. ⌜ TakesDue interval (slot .0) shown schedule (now (snapshots .entry)) r (now (snapshots .exit)) ⌝ }
+    requires { ⌜ (1 ≤ interval) × (slot .0 < 2 ^ 62) × (schedule .next .0 ≡ schedule .count * interval) × (first ≤ schedule .count) ⌝ }
+    ensures { λ r. ⌜ TakesDue interval (slot .0) shown first schedule (now (snapshots .entry)) r (now (snapshots .exit)) ⌝ }
 {
     let this = slot.0;
     let mut next = schedule.next.0;
     let mut count = schedule.count;
     while next <= this {
-        take_snapshot(Slot(next), shown, count, snapshots);
+        take_snapshot(Slot(next), shown, count - first, snapshots);
         next += interval;
         count += 1;
     }

@@ -63,6 +63,7 @@ module _ (n listening : ℕ) (few : n ≤ maxNodes) (all : listening ≡ 2 ^ n -
         slot = record { 0 = 0 };
         «next_snapshot» = record { 0 = 0 };
         snapshots = 0;
+        «first_stored» = 0;
       }
 
   abbrev newStanding : ℕ → Standing
@@ -87,9 +88,10 @@ module _ (n listening : ℕ) (few : n ≤ maxNodes) (all : listening ≡ 2 ^ n -
   new-radios =
       record {
         stands = λ g b e. subst⁻¹ (λ (m : ℕ). Stands n newRadios b b (newStanding m)) e (stands b);
-        sound = λ g e low high i. record { few = omega (arith, e); repeats = (low, high); interval = i; attempts = omega arith; successes = omega arith; next = sym (zero-mul (g .interval)) };
+        sound = λ g e low high i. record { few = omega (arith, e); repeats = (low, high); interval = i; attempts = omega arith; successes = omega arith; next = sym (zero-mul (g .interval)); stored = omega arith };
         first = refl;
         untried = refl;
+        all = refl;
       }
 
 -- ---- the nodes' part

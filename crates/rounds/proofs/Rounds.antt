@@ -32,7 +32,7 @@ ones-part g k r = ones-setOf (g .nodes) _ ∙ count-cong (g .nodes) _ _ (λ j h.
 -- what holds between slots does not speak of the progress
 sound-as : (p : Plan) (m q : ℕ) {x : Radios} → Sound (settingsOf p m) x → Sound (settingsOf p q) x
 sound-as p m q s =
-    record { few = s .few; repeats = s .repeats; interval = s .interval; attempts = s .attempts; successes = s .successes; next = s .next }
+    record { few = s .few; repeats = s .repeats; interval = s .interval; attempts = s .attempts; successes = s .successes; next = s .next; stored = s .stored }
 
 module _ {graph : List ℕ} {p : Plan} {k : ℕ} {x : Run} {w : Workspace} {b₀ : List ℕ} {s₀ : Running}
     (ok : Accepted (planned graph p)) (early : k < mostRounds maxTerms) (g₀ : Going graph p k x w b₀ s₀) where
@@ -158,4 +158,4 @@ module _ {graph : List ℕ} {p : Plan} {k : ℕ} {x : Run} {w : Workspace} {b₀
             }
 
         pub round-plays : Plays graph p k x w (record { run = after; round = record { packet = prepared .packet; part = flooded .part } }) then
-        round-plays = record { steady = steady; shows = λ b₁ s g. shows g; round = λ b₁ s g i. record { packet = packet-is g i; part = part-is g i } }
+        round-plays = record { steady = steady; shows = λ b₁ s g. shows g; round = λ b₁ s g i. record { packet = packet-is g i; part = part-is g i }; first = fl .first }

@@ -9,7 +9,7 @@ use native.Mathlib.Numerals.{add-one}
 use native.Mathlib.Omega.{arith}
 use lib.Dec.{leb, eqb, ltb}
 use lib.ListN.{length, getElem?}
-use borrow.Author.Tests.{le-leb, lt-leb, eqb-true, eq-eqb, ne-eqb}
+use borrow.Author.Tests.{le-leb, lt-leb, eqb-true, eqb-false, eq-eqb, ne-eqb}
 use Rattle.config.specs.Limits.{maxTerms, extraRounds}
 use Rattle.random.specs.Reception.{Source}
 use Rattle.random.proofs.Stream.{source-begins}
@@ -27,10 +27,11 @@ use Rattle.rules.proofs.Rounds.{rounds-more}
 use Rattle.rounds.specs.declared.run.Plan.{Plan}
 use Rattle.rounds.specs.declared.run.Run.{Run}
 use Rattle.rounds.specs.declared.run.Played.{Played}
+use Rattle.rounds.specs.declared.run.Next.{Next}
 use Rattle.rounds.specs.declared.run.LastRound.the-variants.{None, Of}
 use Rattle.rounds.specs.declared.run.Stopped.{Stopped}
 use Rattle.rounds.specs.declared.survey.Surveyed.{Surveyed}
-use Rattle.rounds.specs.Going.{planned, settingsOf, Workspace, Shows, Steady, Plays, Surveys, CanGo, lastRound, Underway, Goes, NewRun}
+use Rattle.rounds.specs.Going.{planned, settingsOf, Workspace, Shows, Steady, Going, Plays, MovesOn, Surveys, CanGo, lastRound, Underway, Goes, NewRun}
 
 -- ---- what the code shows
 
@@ -79,7 +80,7 @@ module _ {p : Plan} {x : Run} {w : Workspace} {m : ℕ} where
 -- ---- before the first round
 
 pub underway-new : (graph : List ℕ) (p : Plan) (most : ℕ) (x : Run) (w : Workspace) → CanGo graph p most w → NewRun (p .nodes) x
-    → Underway graph p most 0 x w (w .snapshots)
+    → Underway graph p most 0 x w (w .snapshots) (begin (planned graph p))
 unfolding runFor
 underway-new graph p most x w can new =
     let g : Given = planned graph p in
@@ -87,7 +88,6 @@ underway-new graph p most x w can new =
     let c = p .config in
     let all : most - 0 ≡ most = omega arith in
     record {
-      here = begin g;
       going = record {
         shows = record {
           standing = new .flood .stands g (w .snapshots) refl;
@@ -112,6 +112,35 @@ underway-new graph p most x w can new =
       in-time = omega arith;
     }
 
+-- ---- one round more
+
+-- the round as it was played, with what the survey of the logs saw
+module _ {graph : List ℕ} {p : Plan} {k : ℕ} {x : Run} {w : Workspace} {r : Played} {w' : Workspace} (pl : Plays graph p k x w r w')
+    {logs : Surveyed} (seen : Surveys (p .nodes) (p .config .«num_proposals») (w' .states) logs) where
+  abbrev told : ℕ
+  told = cond (logs .complete) 1 (cond (eqb (r .run .carry .recorded .count) (p .config .«num_proposals») && ltb (p .config .«num_proposals» + 5 * p .diameter) k) 2 (cond (ltb (p .config .«num_proposals» + extraRounds) k) 3 0))
+
+  pub moves-on : {end : ℕ} → end ≡ told → MovesOn graph p k x w (record { run = showing (logs .shortest) (r .run); round = r .round; ended = end }) w'
+  unfolding endAfter
+  moves-on e =
+      record {
+        going = λ b₀ s g.
+            let shown = pl .shows b₀ s g in
+            record {
+              shows = shows-as shown;
+              steady = steady-as (pl .steady);
+              rounds = rounds-more (planned graph p) k s ∙ ap (λ (m : ℕ). m + 1) (g .rounds);
+              progress = seen .shortest ∙ ap (λ (y : List State). shortestLog y (p .nodes)) (states-are shown);
+            };
+        round = pl .round;
+        ended = λ b₀ s g.
+            let shown = pl .shows b₀ s g in
+            e ∙ λ i.
+            cond ((seen .complete ∙ ap (complete (p .nodes) (p .config .«num_proposals»)) (states-are shown)) i) 1
+            (cond (eqb (count-is shown i) (p .config .«num_proposals») && ltb (p .config .«num_proposals» + 5 * p .diameter) k) 2 (cond (ltb (p .config .«num_proposals» + extraRounds) k) 3 0));
+        first = pl .first;
+      }
+
 -- ---- the ends
 
 module _ {graph : List ℕ} {p : Plan} {most : ℕ} {b₀ : List ℕ} where
@@ -128,7 +157,7 @@ module _ {graph : List ℕ} {p : Plan} {most : ℕ} {b₀ : List ℕ} where
         few = few;
       }
 
-  module _ {k : ℕ} {x : Run} {w : Workspace} (u : Underway graph p most k x w b₀) where
+  module _ {k : ℕ} {x : Run} {w : Workspace} {here : Running} (u : Underway graph p most k x w b₀ here) where
     -- a round that was not run
     unrun : (r : Running) (m : ℕ) → length (r .rounds) ≡ m → m ≤ most - 1 → None ≡ lastRound (getElem? (r .rounds) (most - 1))
     unrun r m e h = sym (ap lastRound (elem-beyond (r .rounds) (most - 1) (omega (arith, e))))
@@ -138,88 +167,79 @@ module _ {graph : List ℕ} {p : Plan} {most : ℕ} {b₀ : List ℕ} where
     unfolding roundsFrom
     used-up h =
         let none : most - k ≡ 0 = omega arith in
-        goes-as (record { running = u .here; ended = 0 }) (sym (u .rest) ∙ ap (λ (m : ℕ). roundsFrom (planned graph p) m k (u .here)) none)
-        (u .going .shows) (u .going .steady) (u .going .rounds) (unrun (u .here) k (u .going .rounds) (u .in-time)) refl (omega (arith, u .in-time))
+        goes-as (record { running = here; ended = 0 }) (sym (u .rest) ∙ ap (λ (m : ℕ). roundsFrom (planned graph p) m k here) none)
+        (u .going .shows) (u .going .steady) (u .going .rounds) (unrun here k (u .going .rounds) (u .in-time)) refl (omega (arith, u .in-time))
 
     module _ (more : k < most) where
-      from-here : roundsFrom (planned graph p) (suc (most - (k + 1))) k (u .here) ≡ runFor (planned graph p) most
-      from-here = let left : most - k ≡ suc (most - (k + 1)) = omega arith in ap (λ (m : ℕ). roundsFrom (planned graph p) m k (u .here)) (sym left) ∙ u .rest
+      from-here : roundsFrom (planned graph p) (suc (most - (k + 1))) k here ≡ runFor (planned graph p) most
+      from-here = let left : most - k ≡ suc (most - (k + 1)) = omega arith in ap (λ (m : ℕ). roundsFrom (planned graph p) m k here) (sym left) ∙ u .rest
+
+      -- the slot limit is reached
+      pub limit-is : p .config .«max_slots» ≤ x .flood .slot .0 → runFor (planned graph p) most ≡ record { running = here; ended = 4 }
+      limit-is h =
+          sym from-here
+          ∙ from-limit (planned graph p) (most - (k + 1)) k here (le-leb (planned graph p .limit) (here .standing .slot) (omega (arith, u .going .shows .standing .slot)))
 
       pub at-limit : p .config .«max_slots» ≤ x .flood .slot .0 → Goes graph p most (record { run = x; rounds = k; last = None; ended = 4 }) b₀ w
       at-limit h =
-          goes-as (record { running = u .here; ended = 4 })
-          (sym from-here ∙ from-limit (planned graph p) (most - (k + 1)) k (u .here) (le-leb (planned graph p .limit) (u .here .standing .slot) (omega (arith, u .going .shows .standing .slot))))
-          (u .going .shows) (u .going .steady) (u .going .rounds) (unrun (u .here) k (u .going .rounds) (u .in-time)) refl (omega (arith, u .in-time))
+          goes-as (record { running = here; ended = 4 }) (limit-is h)
+          (u .going .shows) (u .going .steady) (u .going .rounds) (unrun here k (u .going .rounds) (u .in-time)) refl (omega (arith, u .in-time))
 
-      -- after one round more, whose end is told by what the survey of the logs saw
-      module _ (below : x .flood .slot .0 < p .config .«max_slots») {r : Played} {w' : Workspace} (pl : Plays graph p k x w r w')
-          {logs : Surveyed} (seen : Surveys (p .nodes) (p .config .«num_proposals») (w' .states) logs) where
+      -- after one round more
+      module _ (below : x .flood .slot .0 < p .config .«max_slots») {r : Next} {w' : Workspace} (m : MovesOn graph p k x w r w') where
         abbrev next : Running
-        next = runRound (planned graph p) k (u .here)
+        next = runRound (planned graph p) k here
 
-        shown : Shows p (r .run) w' b₀ next
-        shown = pl .shows b₀ (u .here) (u .going)
+        going : Going graph p (k + 1) (r .run) w' b₀ next
+        going = m .going b₀ here (u .going)
 
-        under : leb (planned graph p .limit) (u .here .standing .slot) ≡ false
-        under = lt-leb (planned graph p .limit) (u .here .standing .slot) (omega (arith, u .going .shows .standing .slot))
+        under : leb (planned graph p .limit) (here .standing .slot) ≡ false
+        under = lt-leb (planned graph p .limit) (here .standing .slot) (omega (arith, u .going .shows .standing .slot))
 
-        rounds : length (next .rounds) ≡ k + 1
-        rounds = rounds-more (planned graph p) k (u .here) ∙ ap (λ (m : ℕ). m + 1) (u .going .rounds)
+        end-is : r .ended ≡ endAfter (planned graph p) k next
+        end-is = m .ended b₀ here (u .going)
 
         -- the round that was run
         ran : k ≡ most - 1 → Of (r .round) ≡ lastRound (getElem? (next .rounds) (most - 1))
         ran e =
-            ap Of (pl .round b₀ (u .here) (u .going))
-            ∙ sym (ap (λ (i : ℕ). lastRound (getElem? (next .rounds) i)) (sym (u .going .rounds ∙ e)) ∙ ap lastRound (newest (planned graph p) k (u .here)))
+            ap Of (m .round b₀ here (u .going))
+            ∙ sym (ap (λ (i : ℕ). lastRound (getElem? (next .rounds) i)) (sym (u .going .rounds ∙ e)) ∙ ap lastRound (newest (planned graph p) k here))
 
-        abbrev told : ℕ
-        told = cond (logs .complete) 1 (cond (eqb (r .run .carry .recorded .count) (p .config .«num_proposals») && ltb (p .config .«num_proposals» + 5 * p .diameter) k) 2 (cond (ltb (p .config .«num_proposals» + extraRounds) k) 3 0))
+        -- an end came
+        pub run-is : (r .ended ≡ 0 → ⊥) → runFor (planned graph p) most ≡ record { running = next; ended = r .ended }
+        run-is q =
+            sym from-here
+            ∙ from-end (planned graph p) (most - (k + 1)) k here under (ap (λ (e : ℕ). eqb e 0) (sym end-is) ∙ ne-eqb (r .ended) 0 q)
+            ∙ ap (λ (e : ℕ). record { running = next; ended = e }) (sym end-is)
 
-        end-is : told ≡ endAfter (planned graph p) k next
-        unfolding endAfter
-        end-is = λ i.
-            cond ((seen .complete ∙ ap (complete (p .nodes) (p .config .«num_proposals»)) (states-are shown)) i) 1
-            (cond (eqb (count-is shown i) (p .config .«num_proposals») && ltb (p .config .«num_proposals» + 5 * p .diameter) k) 2 (cond (ltb (p .config .«num_proposals» + extraRounds) k) 3 0))
-
-        -- an end came, and it was not the last round that might be run
-        pub at-end : (end : ℕ) → end ≡ told → (end ≡ 0 → ⊥) → (k + 1 ≡ most → ⊥)
-            → Goes graph p most (record { run = showing (logs .shortest) (r .run); rounds = k + 1; last = None; ended = end }) b₀ w'
-        at-end end e q other =
-            let same : endAfter (planned graph p) k next ≡ end = sym (e ∙ end-is) in
-            goes-as (record { running = next; ended = endAfter (planned graph p) k next })
-            (sym from-here ∙ from-end (planned graph p) (most - (k + 1)) k (u .here) under (ap (λ (m : ℕ). eqb m 0) same ∙ ne-eqb end 0 q))
-            (shows-as shown) (steady-as (pl .steady)) rounds (unrun next (k + 1) rounds (omega (arith, more, other))) (sym same) (omega (arith, more))
+        -- and it was not the last round that might be run
+        pub at-end : (r .ended ≡ 0 → ⊥) → (k + 1 ≡ most → ⊥) → Goes graph p most (record { run = r .run; rounds = k + 1; last = None; ended = r .ended }) b₀ w'
+        at-end q other =
+            goes-as (record { running = next; ended = r .ended }) (run-is q) (going .shows) (going .steady) (going .rounds)
+            (unrun next (k + 1) (going .rounds) (omega (arith, more, other))) refl (omega (arith, more))
 
         -- it was, whether an end came or not
-        pub at-last : (end : ℕ) → end ≡ told → k + 1 ≡ most
-            → Goes graph p most (record { run = showing (logs .shortest) (r .run); rounds = k + 1; last = Of (r .round); ended = end }) b₀ w'
+        pub at-last : k + 1 ≡ most → Goes graph p most (record { run = r .run; rounds = k + 1; last = Of (r .round); ended = r .ended }) b₀ w'
         unfolding roundsFrom
-        at-last end e used =
-            let same : endAfter (planned graph p) k next ≡ end = sym (e ∙ end-is) in
+        at-last used =
             let none-left : most - (k + 1) ≡ 0 = omega (arith, used) in
-            goes-as (record { running = next; ended = end })
-            (sym from-here
-            ∙ ⊎-elim
-            (λ z. from-next (planned graph p) (most - (k + 1)) k (u .here) under z
+            goes-as (record { running = next; ended = r .ended })
+            (⊎-elim
+            (λ z. sym from-here
+            ∙ from-next (planned graph p) (most - (k + 1)) k here under (eq-eqb (endAfter (planned graph p) k next) 0 (sym end-is ∙ eqb-true (r .ended) 0 z))
             ∙ ap (λ (m : ℕ). roundsFrom (planned graph p) m (suc k) next) none-left
-            ∙ ap (λ (m : ℕ). record { running = next; ended = m }) (sym (sym same ∙ eqb-true (endAfter (planned graph p) k next) 0 z)))
-            (λ z. from-end (planned graph p) (most - (k + 1)) k (u .here) under z ∙ ap (λ (m : ℕ). record { running = next; ended = m }) same)
-            (two (eqb (endAfter (planned graph p) k next) 0)))
-            (shows-as shown) (steady-as (pl .steady)) rounds (ran (omega (arith, used))) refl (omega (arith, more))
+            ∙ ap (λ (e : ℕ). record { running = next; ended = e }) (sym (eqb-true (r .ended) 0 z)))
+            (λ z. run-is (eqb-false (r .ended) 0 z))
+            (two (eqb (r .ended) 0)))
+            (going .shows) (going .steady) (going .rounds) (ran (omega (arith, used))) refl (omega (arith, more))
 
-        pub goes-on : (end : ℕ) → end ≡ told → end ≡ 0 → (k + 1 ≡ most → ⊥) → Underway graph p most (k + 1) (showing (logs .shortest) (r .run)) w' b₀
-        goes-on end e z other =
+        pub goes-on : r .ended ≡ 0 → (k + 1 ≡ most → ⊥) → Underway graph p most (k + 1) (r .run) w' b₀ next
+        goes-on z other =
             record {
-              here = next;
-              going = record {
-                shows = shows-as shown;
-                steady = steady-as (pl .steady);
-                rounds = rounds;
-                progress = seen .shortest ∙ ap (λ (y : List State). shortestLog y (p .nodes)) (states-are shown);
-              };
+              going = going;
               rest =
                   ap (λ (m : ℕ). roundsFrom (planned graph p) (most - (k + 1)) m next) (add-one k)
-                  ∙ sym (from-next (planned graph p) (most - (k + 1)) k (u .here) under (eq-eqb _ 0 (sym (e ∙ end-is) ∙ z)))
+                  ∙ sym (from-next (planned graph p) (most - (k + 1)) k here under (eq-eqb _ 0 (sym end-is ∙ z)))
                   ∙ from-here;
               in-time = omega (arith, more, other);
             }

@@ -16,10 +16,11 @@ use Rattle.pipeline.specs.View.{AllKept, Blank, statesOf, Sharing, sharedOf}
 use Rattle.rules.specs.Accepted.{Accepted}
 use Rattle.rules.specs.Entries.{givenAs}
 use Rattle.rules.specs.Answers.{seenRound}
-use Rattle.rules.specs.Run.{Given, Past, Running, begin, complete, pastIn, runRound, roundsFrom, runFor}
+use Rattle.rules.specs.Run.{Given, Past, Running, begin, complete, endAfter, pastIn, runRound, roundsFrom, runFor}
 use Rattle.rounds.specs.declared.run.Plan.{Plan}
 use Rattle.rounds.specs.declared.run.Run.{Run}
 use Rattle.rounds.specs.declared.run.Played.{Played}
+use Rattle.rounds.specs.declared.run.Next.{Next}
 use Rattle.rounds.specs.declared.run.LastRound.{LastRound}
 use Rattle.rounds.specs.declared.run.LastRound.the-variants.{None, Of}
 use Rattle.rounds.specs.declared.run.Stopped.{Stopped}
@@ -59,7 +60,8 @@ lentOf w = tables (w .queue) (w .stream) (w .snapshots)
 
 -- ---- between rounds
 
--- The code at x with the workspace w shows where the run of the definitions stands. As the run began the snapshots' buffer was b₀.
+-- The code at x with the workspace w shows where the run of the definitions stands. Before the first snapshot that is stored their buffer was
+-- b₀.
 pub record Shows (p : Plan) (x : Run) (w : Workspace) (b₀ : List ℕ) (s : Running) : Type 0 where
   pub standing : Stands (p .nodes) (x .flood) b₀ (w .snapshots) (s .standing)
   pub shared : sharedOf (p .nodes) (x .carry) (w .states) (w .history) ≡ s .shared
@@ -99,6 +101,14 @@ pub record Plays (graph : List ℕ) (p : Plan) (k : ℕ) (x : Run) (w : Workspac
   pub steady : Steady (planned graph p .heard) p (k + 1) (r .run) w'
   pub shows : (b₀ : List ℕ) (s : Running) → Going graph p k x w b₀ s → Shows p (r .run) w' b₀ (runRound (planned graph p) k s)
   pub round : (b₀ : List ℕ) (s : Running) → Going graph p k x w b₀ s → r .round ≡ seenRound (pastIn (planned graph p) k s)
+  pub first : r .run .flood .«first_stored» ≡ x .flood .«first_stored»
+
+-- Round k was played, and it is known how far the logs are after it: so one round more can be played from r. Its end is the definitions' own.
+pub record MovesOn (graph : List ℕ) (p : Plan) (k : ℕ) (x : Run) (w : Workspace) (r : Next) (w' : Workspace) : Type 0 where
+  pub going : (b₀ : List ℕ) (s : Running) → Going graph p k x w b₀ s → Going graph p (k + 1) (r .run) w' b₀ (runRound (planned graph p) k s)
+  pub round : (b₀ : List ℕ) (s : Running) → Going graph p k x w b₀ s → r .round ≡ seenRound (pastIn (planned graph p) k s)
+  pub ended : (b₀ : List ℕ) (s : Running) → Going graph p k x w b₀ s → r .ended ≡ endAfter (planned graph p) k (runRound (planned graph p) k s)
+  pub first : r .run .flood .«first_stored» ≡ x .flood .«first_stored»
 
 -- ---- the logs
 
@@ -133,9 +143,8 @@ abbrev pub lastRound : Option Past → LastRound
 lastRound none = None
 lastRound (some p) = Of (seenRound p)
 
--- Of a run that may take `most` rounds, k are played.
-pub record Underway (graph : List ℕ) (p : Plan) (most k : ℕ) (x : Run) (w : Workspace) (b₀ : List ℕ) : Type 0 where
-  pub here : Running
+-- Of a run that may take `most` rounds, k are played, and the definitions stand here.
+pub record Underway (graph : List ℕ) (p : Plan) (most k : ℕ) (x : Run) (w : Workspace) (b₀ : List ℕ) (here : Running) : Type 0 where
   pub going : Going graph p k x w b₀ here
   pub rest : roundsFrom (planned graph p) (most - k) k here ≡ runFor (planned graph p) most
   pub in-time : k ≤ most - 1
@@ -149,11 +158,12 @@ pub record Goes (graph : List ℕ) (p : Plan) (most : ℕ) (r : Stopped) (b₀ :
   pub ended : r .ended ≡ runFor (planned graph p) most .ended
   pub few : r .rounds ≤ most
 
--- and so with the states, the history and the snapshots alone
+-- and so with the states, the history and the snapshots alone, of which all were stored that fit
 pub record Stops (graph : List ℕ) (p : Plan) (most : ℕ) (r : Stopped) (b₀ states history snapshots : List ℕ) : Type 0 where
   pub queue : List ℕ
   pub stream : List ℕ
   pub goes : Goes graph p most r b₀ (workspace queue stream states history snapshots)
+  pub all : r .run .flood .«first_stored» ≡ 0
 
 -- ---- before the first round
 
@@ -163,6 +173,7 @@ pub record NewRadios (n : ℕ) (x : Radios) : Type 0 where
   pub sound : (g : Settings) → g .nodes ≡ n → 1 ≤ g .repeats → g .repeats ≤ maxRepeats → 1 ≤ g .interval → Sound g x
   pub first : x .slot .0 ≡ 0
   pub untried : x .attempts ≡ 0
+  pub all : x .«first_stored» ≡ 0
 
 -- a run before the first round
 pub record NewRun (n : ℕ) (x : Run) : Type 0 where

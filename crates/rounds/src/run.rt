@@ -27,7 +27,7 @@ ghost use lib.Count.{ones};
 ghost use lib.Dec.{eqb, ltb};
 ghost use Prim.Native.Nat.{_+_, _*_, _≤_};
 ghost use Rattle.config.specs.Limits.{setBits, maxNodes, maxTerms, maxRepeats, roundsPerLink, extraRounds};
-ghost use Rattle.rounds.specs.Going.{settingsOf, workspace, CanPlay, Plays, CanStart, CanGo, Goes, Stops, NewRadios, NewRun};
+ghost use Rattle.rounds.specs.Going.{settingsOf, workspace, CanPlay, Plays, MovesOn, CanStart, CanGo, Goes, Stops, NewRadios, NewRun};
 
 // What a run is given beside the rows of its graph.
 pub struct Plan {
@@ -49,6 +49,13 @@ pub struct Run {
 pub struct Played {
     pub run: Run,
     pub round: SeenRound,
+}
+
+// One round more: where the run stands after it, what is seen of it, and the end that came with it, or 0.
+pub struct Next {
+    pub run: Run,
+    pub round: SeenRound,
+    pub ended: u64,
 }
 
 // The last of the rounds that a run may have, if it came to it.
@@ -82,11 +89,12 @@ fn new_radios(n: usize) -> Radios
         slot: Slot(0),
         next_snapshot: Slot(0),
         snapshots: 0,
+        first_stored: 0,
     }
 }
 
 // A run before its first round.
-fn new_run(n: usize) -> Run
+pub fn new_run(n: usize) -> Run
     requires { ⌜ n ≤ maxNodes ⌝ }
     ensures { λ r. ⌜ NewRun n r ⌝ }
 {
@@ -197,6 +205,34 @@ fn end_after(proposals: u64, diameter: u64, complete: bool, records: u64, k: u64
     if proposals + EXTRA_ROUNDS < k { 3 } else { 0 }
 }
 
+// Round k, how far the logs are after it, and its end.
+pub fn next_round(
+    graph: &[u64; MAX_NODES],
+    plan: Plan,
+    k: u64,
+    x: Run,
+    queue: &mut [u64; QUEUE_SIZE],
+    stream: &mut [u32; STREAM_SIZE],
+    states: &mut [u64],
+    history: &mut [u64; HISTORY_SIZE],
+    snapshots: &mut [u64],
+) -> Next
+    requires { ⌜ CanPlay (now graph) plan k x (workspace (now queue) (now stream) (now states) (now history) (now snapshots)) ⌝ }
+    ensures { λ r. ⌜ MovesOn (now (graph .entry)) plan k x
+        (workspace (now (queue .entry)) (now (stream .entry)) (now (states .entry)) (now (history .entry)) (now (snapshots .entry)))
+        r (workspace (now (queue .exit)) (now (stream .exit)) (now (states .exit)) (now (history .exit)) (now (snapshots .exit))) ⌝ }
+{
+    let proposals = plan.config.num_proposals;
+    let played = run_round(graph, plan, k, x, queue, stream, states, history, snapshots);
+    let mut run = played.run;
+    let seen = survey(states, plan.nodes, proposals as usize);
+    run.progress = seen.shortest;
+    let records = run.carry.recorded.count;
+    let ended = end_after(proposals, plan.diameter as u64, seen.complete, records, k);
+    let round = played.round;
+    Next { run, round, ended }
+}
+
 // Rounds up to an end, at most so many. A round starts only below the slot limit.
 fn play_rounds(
     graph: &[u64; MAX_NODES],
@@ -210,10 +246,10 @@ fn play_rounds(
 ) -> Stopped
     requires { ⌜ CanGo (now graph) plan most (workspace (now queue) (now stream) (now states) (now history) (now snapshots)) ⌝ }
     ensures { λ r. ⌜ Goes (now (graph .entry)) plan most r (now (snapshots .entry))
-        (workspace (now (queue .exit)) (now (stream .exit)) (now (states .exit)) (now (history .exit)) (now (snapshots .exit))) ⌝ }
+        (workspace (now (queue .exit)) (now (stream .exit)) (now (states .exit)) (now (history .exit)) (now (snapshots .exit)))
+        × (r .run .flood .«first_stored» ≡ 0) ⌝ }
 {
     let config = plan.config;
-    let proposals = config.num_proposals;
     let mut x = new_run(plan.nodes);
     let mut k = 0u64;
     while k < most {
@@ -225,15 +261,12 @@ fn play_rounds(
                 ended: 4,
             };
         }
-        let played = run_round(graph, plan, k, x, queue, stream, states, history, snapshots);
-        x = played.run;
-        let seen = survey(states, plan.nodes, proposals as usize);
-        x.progress = seen.shortest;
-        let records = x.carry.recorded.count;
-        let end = end_after(proposals, plan.diameter as u64, seen.complete, records, k);
+        let next = next_round(graph, plan, k, x, queue, stream, states, history, snapshots);
+        x = next.run;
+        let end = next.ended;
         k += 1;
         if k == most {
-            let round = played.round;
+            let round = next.round;
             return Stopped {
                 run: x,
                 rounds: k,

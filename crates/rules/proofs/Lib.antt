@@ -43,3 +43,4 @@ pub mod RunBounds
 pub mod Coverage
 pub mod SentPackets
 pub mod ShortRounds
+pub mod Taken

@@ -1,19 +1,36 @@
 -- The run with its buffers: what it needs, and its summary from what the code counted.
 use Prim.Native.Nat.{ℕ, _*_, _≤_}
 use mathlib.Core.List.{List}
+use mathlib.Core.Path.{_≡_}
 use lib.ListN.{length}
-use Rattle.config.specs.Limits.{logSize, recordsSize}
+use Rattle.config.specs.Limits.{maxTerms, logSize, recordsSize}
 use Rattle.metrics.specs.declared.summary.Summary.{Summary}
+use Rattle.pipeline.specs.View.{AllKept, statesOf}
 use Rattle.rules.specs.Accepted.{Accepted}
+use Rattle.rules.specs.Answers.{ran}
+use Rattle.rules.specs.Entries.{ranWith}
 use Rattle.rounds.specs.declared.run.Plan.{Plan}
 use Rattle.rounds.specs.declared.run.Stopped.{Stopped}
-use Rattle.rounds.specs.Going.{planned}
+use Rattle.rules.specs.Run.{run}
+use Rattle.rounds.specs.Going.{planned, Workspace, Shows}
 
 -- an accepted run whose buffers are long enough
 pub record CanFill (graph : List ℕ) (p : Plan) (logs records : List ℕ) : Type 0 where
   pub accepted : Accepted (planned graph p)
   pub logs-long : logSize ≤ length logs
   pub records-long : recordsSize ≤ length records
+
+-- the run over a table of states: its buffers are as its entry leaves them, and the table shows the states that it ends with
+pub record Fills (graph : List ℕ) (p : Plan) (logs records snapshots : List ℕ) (s : Summary) (states' logs' records' snapshots' : List ℕ) : Type 0 where
+  pub buffers : ran s logs' records' snapshots' ≡ ranWith (planned graph p) logs records snapshots
+  pub kept : AllKept maxTerms (p .nodes) states'
+  pub states : statesOf (p .nodes) states' ≡ run (planned graph p) .running .shared .states
+
+-- the code's rounds have stopped where the run's end
+pub record Over (graph : List ℕ) (p : Plan) (r : Stopped) (b₀ : List ℕ) (w : Workspace) : Type 0 where
+  pub shows : Shows p (r .run) w b₀ (run (planned graph p) .running)
+  pub rounds : length (run (planned graph p) .running .rounds) ≡ r .rounds
+  pub ended : r .ended ≡ run (planned graph p) .ended
 
 -- The summary of a run that has stopped, from what the code counted. As many nodes are covered as took part (`SameCounts`).
 abbrev pub summaryFrom : ℕ → Stopped → Summary

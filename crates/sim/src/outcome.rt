@@ -21,7 +21,7 @@ ghost use Rattle.pipeline.specs.View.{tableSize};
 ghost use Rattle.rules.specs.Answers.{ran};
 ghost use Rattle.rules.specs.Entries.{ranWith};
 ghost use Rattle.rounds.specs.Going.{planned};
-ghost use Rattle.sim.specs.Filling.{CanFill, summaryFrom};
+ghost use Rattle.sim.specs.Filling.{CanFill, Fills, summaryFrom};
 
 // The summary of a run that has stopped. The covered nodes are those that took part (`SameCounts`).
 pub fn summary_of(end: Stopped, n: usize) -> Summary
@@ -52,8 +52,8 @@ pub fn summary_of(end: Stopped, n: usize) -> Summary
     }
 }
 
-// The run over a table of states that are still empty.
-fn run_over(
+// The run over a table of states that are still empty. The table keeps the states that the run ends with.
+pub fn run_over(
     graph: &[u64; MAX_NODES],
     plan: Plan,
     states: &mut [u64],
@@ -62,9 +62,8 @@ fn run_over(
     snapshots: &mut [u64],
 ) -> Summary
     requires { ⌜ CanFill (now graph) plan (now logs) (now records) × (now states ≡ replicate (tableSize (plan .nodes)) 0) ⌝ }
-    ensures { λ r. ⌜
-        ran r (now (logs .exit)) (now (records .exit)) (now (snapshots .exit))
-        ≡ ranWith (planned (now (graph .entry)) plan) (now (logs .entry)) (now (records .entry)) (now (snapshots .entry)) ⌝ }
+    ensures { λ r. ⌜ Fills (now (graph .entry)) plan (now (logs .entry)) (now (records .entry)) (now (snapshots .entry)) r
+        (now (states .exit)) (now (logs .exit)) (now (records .exit)) (now (snapshots .exit)) ⌝ }
 {
     let most = plan.config.num_proposals + ENOUGH_ROUNDS;
     let mut history = [0u64; HISTORY_SIZE];

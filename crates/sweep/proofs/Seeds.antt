@@ -14,7 +14,7 @@ use Rattle.rounds.specs.declared.run.Stopped.{Stopped}
 use Rattle.rounds.specs.Going.{planned, CanStart, Stops}
 use Rattle.rounds.proofs.Beginning.{table-fits}
 use Rattle.sim.specs.Filling.{summaryFrom}
-use Rattle.sim.proofs.Filled.{summary-is}
+use Rattle.sim.proofs.Filled.{over, summary-is}
 use Rattle.sweep.specs.Sweep.{summaryIn}
 use Rattle.sweep.specs.Working.{planWith, RunsSeed}
 
@@ -58,7 +58,7 @@ module _ {graph : List ℕ} (p : Plan) (seed : ℕ) (ok : Accepted (planned grap
       unfolding summaryIn
       runs-seed {s} is size no-terms unstarted =
           record {
-            summary = is ∙ summary-is stopped;
+            summary = is ∙ summary-is (over (stopped .goes));
             few = omega (arith, ap (λ (x : Summary). x .rounds) is, e .goes .few, ok .proposals);
             blank = record { room = size ∙ table-room; each = no-terms; started = unstarted };
           }

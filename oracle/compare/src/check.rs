@@ -5,7 +5,7 @@ use crate::exact::Exact;
 use crate::library::{self, Buffer, Buffers};
 use crate::library::{LOGS_LENGTH, RECORDS_LENGTH, SNAPSHOT_LENGTH, SUMMARY_LENGTH};
 use crate::previews::Previewed;
-use oracle::{Answer, Input, Summary, Validity};
+use oracle::{Answer, Input, Summary, Validity, TOTALS_LENGTH};
 use std::fmt::Display;
 
 /// The library's numbers for buffers that are too short.
@@ -97,6 +97,16 @@ fn write(run: &Summary, buffers: &mut Buffers) {
         snapshots,
     } = buffers;
     summary.places[..SUMMARY_LENGTH].copy_from_slice(&numbers(run));
+    write_lists(run, logs, records, snapshots);
+}
+
+/// Writes logs, records and those snapshots that fit.
+pub(crate) fn write_lists(
+    run: &Summary,
+    logs: &mut Buffer<u8>,
+    records: &mut Buffer<u64>,
+    snapshots: &mut Buffer<u64>,
+) {
     for (i, log) in run.logs.iter().enumerate() {
         logs.places[2048 + i] = log.len() as u8;
         for (place, term) in logs.places[64 * i..].iter_mut().zip(log) {
@@ -113,25 +123,11 @@ fn write(run: &Summary, buffers: &mut Buffers) {
 }
 
 fn numbers(run: &Summary) -> [u64; SUMMARY_LENGTH] {
-    [
-        run.nodes as u64,
-        run.rounds.len() as u64,
-        run.slots,
-        run.ended.into(),
-        run.listen,
-        run.flood,
-        run.sleep,
-        run.rx_attempts,
-        run.rx_success,
-        run.flood_rounds,
-        run.flood_nodes_total,
-        run.flood_nodes_covered,
-        run.took_part(),
-        run.nacks_sent,
-        run.piggybacks_sent,
-        run.records.len() as u64,
-        run.snapshots.len() as u64,
-    ]
+    let mut numbers = [0; SUMMARY_LENGTH];
+    let (totals, counts) = numbers.split_at_mut(TOTALS_LENGTH);
+    totals.copy_from_slice(&run.totals());
+    counts.copy_from_slice(&[run.records.len() as u64, run.snapshots.len() as u64]);
+    numbers
 }
 
 fn contents_differ(expected: &Buffers, found: &Buffers) -> Option<String> {

@@ -1,11 +1,13 @@
 //! The library's entries, as include/ctsim.h has them.
 
 mod entries;
+mod files;
 
 use entries::{ctsim_draws, ctsim_read_packet, ctsim_write_packet};
 use entries::{ctsim_preview_rows, ctsim_preview_topology, ctsim_run_rows, ctsim_run_topology};
 use entries::{ctsim_sweep_rows, ctsim_sweep_topology};
 use entries::{ctsim_validity_rows, ctsim_validity_topology};
+pub use files::{file, file_check, file_sections, FileBuffers, PARTS_LENGTH};
 use oracle::{Graph, Input};
 
 pub const SUMMARY_LENGTH: usize = 17;

@@ -1,14 +1,18 @@
 //! What a comparison saw.
 
+mod files;
 mod sweeps;
 mod validities;
 mod wire;
 
 use crate::check::Checked;
+use crate::file_checks::CheckedFile;
+use crate::files::CheckedFiling;
 use crate::packets::{CheckedWired, Wired};
 use crate::previews::Previewed;
 use crate::sweeps::CheckedSweep;
-use oracle::{Answer, Graph, Input, Summary, Sweep, Swept};
+use files::Files;
+use oracle::{Answer, Checking, Filing, Graph, Input, Summary, Sweep, Swept};
 use std::fmt;
 use sweeps::Sweeps;
 use validities::Validities;
@@ -35,6 +39,7 @@ pub struct Tally {
     validities: Validities,
     previews: Previews,
     sweeps: Sweeps,
+    files: Files,
     wire: Wire,
     ctsim_seconds: f64,
     library_seconds: f64,
@@ -92,6 +97,40 @@ impl Tally {
         self.sweeps.add(sweep, swept, &checked);
         if let Some(what) = checked.difference {
             self.add_difference(number, sweep.to_string(), what);
+        }
+    }
+
+    pub fn add_filing(
+        &mut self,
+        number: u64,
+        filing: &Filing,
+        answer: &Answer,
+        checked: CheckedFiling,
+    ) {
+        self.files.add(filing, answer, &checked);
+        if let Some(what) = checked.difference {
+            self.add_difference(number, filing.to_string(), what);
+        }
+    }
+
+    pub fn add_file_check(
+        &mut self,
+        number: u64,
+        checking: &Checking,
+        answer: &Answer,
+        checked: Option<CheckedFile>,
+    ) {
+        self.files.add_check(checking, answer, checked.as_ref());
+        if let Some(what) = checked.and_then(|checked| checked.difference) {
+            self.add_difference(number, checking.to_string(), what);
+        }
+    }
+
+    /// Such a file has no line; its way and its seed are told.
+    pub fn add_reshaped(&mut self, number: u64, line: String, way: usize, checked: CheckedFile) {
+        self.files.add_reshaped(way, &checked);
+        if let Some(what) = checked.difference {
+            self.add_difference(number, line, what);
         }
     }
 
@@ -181,11 +220,13 @@ impl fmt::Display for Tally {
         writeln!(f, "  of rows {}", self.exact_of_rows)?;
         writeln!(f, "  at a loss rate above 0 {}", self.exact_above_zero)?;
         write!(f, "{}{}", self.validities, self.previews)?;
-        write!(f, "{}{}", self.sweeps, self.wire)?;
+        write!(f, "{}{}{}", self.sweeps, self.files, self.wire)?;
         writeln!(f, "processor seconds of ctsim {:.0}", self.ctsim_seconds)?;
         writeln!(f, "  of the library {:.0}", self.library_seconds)?;
         writeln!(f, "  of its previews {:.0}", self.previews.seconds)?;
         writeln!(f, "  of its sweeps {:.0}", self.sweeps.seconds)?;
+        writeln!(f, "  of its filings {:.0}", self.files.filing_seconds)?;
+        writeln!(f, "  of its checks {:.0}", self.files.check_seconds)?;
         writeln!(f, "differences {}", self.differences)?;
         if let Some(first) = &self.first {
             writeln!(f, "first difference:\n  {}\n  {}", first.line, first.what)?;

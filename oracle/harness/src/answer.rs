@@ -10,6 +10,9 @@ use ctsim::sim::paxos_pipeline::harness::{self, Finished};
 use ctsim::sim::paxos_pipeline::PaxosPipelineSim;
 use std::panic::{catch_unwind, AssertUnwindSafe};
 
+/// Numbers of the listing's first three lines.
+pub const TOTALS_LENGTH: usize = 15;
+
 #[derive(Debug, Clone, PartialEq, Eq)]
 pub enum Answer {
     Refused(u8),
@@ -52,6 +55,27 @@ impl Summary {
     pub fn took_part(&self) -> u64 {
         let sizes = self.rounds.iter().map(|round| round.part.count_ones());
         sizes.map(u64::from).sum()
+    }
+
+    /// The numbers of the listing's first three lines.
+    pub fn totals(&self) -> [u64; TOTALS_LENGTH] {
+        [
+            self.nodes as u64,
+            self.rounds.len() as u64,
+            self.slots,
+            self.ended.into(),
+            self.listen,
+            self.flood,
+            self.sleep,
+            self.rx_attempts,
+            self.rx_success,
+            self.flood_rounds,
+            self.flood_nodes_total,
+            self.flood_nodes_covered,
+            self.took_part(),
+            self.nacks_sent,
+            self.piggybacks_sent,
+        ]
     }
 }
 

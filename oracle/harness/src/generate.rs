@@ -1,10 +1,13 @@
 //! Inputs to compare on: a list of small ones, random ones around the limits of
 //! the questions, broken ones, and such lines with a round to preview, with many
-//! seeds or to be asked for their validity; packets and texts of packets.
+//! seeds, to be asked for their validity, or to be filed and checked; packets and
+//! texts of packets.
 
 mod broken;
+mod files;
 mod packets;
 mod previews;
+mod reshaped;
 mod sweeps;
 mod texts;
 mod validities;
@@ -12,10 +15,12 @@ mod validities;
 use crate::answer::{diameter, run, Answer};
 use crate::input::{Graph, Input, GRID, TREE};
 pub use broken::broken;
+pub use files::{checkings, file_lines, filings};
 pub use packets::{faults, near_packets, packet_lines, packets};
 pub use previews::previews;
 use rand::{RngCore, SeedableRng};
 use rand_chacha::ChaCha8Rng;
+pub use reshaped::{reshaped_files, reshapings, Reshaped};
 use std::iter::once;
 pub use sweeps::{sweep_lines, sweeps};
 pub use texts::{damaged_texts, damages, Taken};
@@ -160,7 +165,15 @@ impl Source {
         } else {
             self.topology()
         };
-        let flood_repeats = self.around(&[1, 1, 2, 63, 64], 1, 8);
+        let flood_repeats = self.flood_repeats();
+        self.input_of(graph, flood_repeats)
+    }
+
+    fn flood_repeats(&mut self) -> u64 {
+        self.around(&[1, 1, 2, 63, 64], 1, 8)
+    }
+
+    fn input_of(&mut self, graph: Graph, flood_repeats: u64) -> Input {
         let mut input = Input {
             round_slots: self.round_slots(flood_repeats, diameter(&graph)),
             graph,

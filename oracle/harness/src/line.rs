@@ -1,5 +1,6 @@
 //! Lines of every form.
 
+use crate::filing::{Checking, Filing};
 use crate::input::{decimal, Input};
 use crate::sweep::Sweep;
 use crate::wire::Packet;
@@ -12,6 +13,10 @@ pub enum Line {
     Sweep(Sweep),
     /// Of `validity LINE`: what is told of LINE without a run.
     Validity(Input),
+    /// Of `file ROOM LENGTH LINE`: LINE's run as an archive file.
+    File(Filing),
+    /// Of `check HOW N ROOM LINE`: such a file, damaged and checked.
+    Check(Checking),
     /// Of `packet N p0 .. p12`: a packet to write.
     Packet(Packet),
     /// Of `text TEXT`: a text to read, any bytes.
@@ -33,6 +38,12 @@ impl Line {
         }
         if let Some(line) = line.strip_prefix("validity ") {
             return Input::parse(line.as_bytes()).map(Line::Validity);
+        }
+        if let Some(fields) = line.strip_prefix("file ") {
+            return Filing::parse(fields).map(Line::File);
+        }
+        if let Some(fields) = line.strip_prefix("check ") {
+            return Checking::parse(fields).map(Line::Check);
         }
         let (round, line) = match line.strip_prefix("round ") {
             None => (None, line),

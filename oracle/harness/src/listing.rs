@@ -1,7 +1,9 @@
 //! The program's listing, what can be printed after it, and the lines of one round, one packet, a
-//! sweep and a validity.
+//! sweep, a validity, an archive file and the check of one.
 
 use crate::answer::{Answer, Summary};
+use crate::archive::Verdict;
+use crate::filing::{Checking, Damage, Filed, Filing};
 use crate::preview::Preview;
 use crate::round::Round;
 use crate::sweep::{Sweep, Swept};
@@ -158,6 +160,96 @@ impl fmt::Display for Validity {
     }
 }
 
+impl fmt::Display for Filing {
+    fn fmt(&self, f: &mut fmt::Formatter) -> fmt::Result {
+        let Filing {
+            room,
+            length,
+            input,
+        } = self;
+        write!(f, "file {room} {length} {input}")
+    }
+}
+
+impl fmt::Display for Filed {
+    fn fmt(&self, f: &mut fmt::Formatter) -> fmt::Result {
+        match self {
+            Filed::Refused(number) => writeln!(f, "refused {number}"),
+            Filed::File(file) => writeln!(f, "file {} {}", file.len(), packed(file)),
+            Filed::Panicked(_) => writeln!(f, "panic"),
+        }
+    }
+}
+
+impl fmt::Display for Checking {
+    fn fmt(&self, f: &mut fmt::Formatter) -> fmt::Result {
+        let Checking {
+            damage,
+            room,
+            input,
+        } = self;
+        write!(f, "check {damage} {room} {input}")
+    }
+}
+
+impl fmt::Display for Damage {
+    fn fmt(&self, f: &mut fmt::Formatter) -> fmt::Result {
+        match self {
+            Damage::Whole => write!(f, "whole 0"),
+            Damage::Flip(number) => write!(f, "flip {number}"),
+            Damage::Cut(number) => write!(f, "cut {number}"),
+            Damage::Grow(number) => write!(f, "grow {number}"),
+            Damage::Set(number) => write!(f, "set {number}"),
+        }
+    }
+}
+
+impl fmt::Display for Verdict {
+    fn fmt(&self, f: &mut fmt::Formatter) -> fmt::Result {
+        match self {
+            Verdict::Refused(number) => writeln!(f, "refused {number}"),
+            Verdict::Read { yes, directory } => {
+                let yes = if *yes { "yes" } else { "no" };
+                writeln!(f, "{yes} sections{}", spaced(directory.as_flattened()))
+            }
+            Verdict::Panicked(_) => writeln!(f, "panic"),
+        }
+    }
+}
+
+/// Two hexadecimal digits a byte; four zeros or more in a row as `z`, their number and a point.
+fn packed(bytes: &[u8]) -> String {
+    let runs = bytes.chunk_by(|byte, next| (*byte == 0) == (*next == 0));
+    let digits = |run: &[u8]| run.iter().map(|byte| format!("{byte:02x}")).collect();
+    runs.map(|run| match run {
+        [0, 0, 0, 0, ..] => format!("z{}.", run.len()),
+        _ => digits(run),
+    })
+    .collect()
+}
+
 fn spaced<T: fmt::Display>(items: impl IntoIterator<Item = T>) -> String {
     items.into_iter().map(|item| format!(" {item}")).collect()
+}
+
+#[cfg(test)]
+mod tests {
+    use super::*;
+
+    #[test]
+    fn zeros_are_packed() {
+        for (bytes, text) in [
+            (&[][..], ""),
+            (&[0], "00"),
+            (&[0, 0, 0], "000000"),
+            (&[0, 0, 0, 0], "z4."),
+            (&[0, 0, 0, 0, 0], "z5."),
+            (&[5, 0, 0, 0, 10], "050000000a"),
+            (&[5, 0, 0, 0, 0, 255], "05z4.ff"),
+            (&[0, 0, 0, 0, 1, 0, 0, 0], "z4.01000000"),
+        ] {
+            assert_eq!(packed(bytes), text, "{bytes:?}");
+        }
+        assert_eq!(packed(&[0; 2000]), "z2000.");
+    }
 }

@@ -4,8 +4,8 @@ use native.Mathlib.Omega.{arith}
 use lib.ListN.{length}
 use lib.Seq.{length-take-le}
 use borrow.Author.Needs.{needs}
-use Rattle.ctsim.specs.declared.Input.{Input}
-use Rattle.ctsim.specs.Input.{bytesOf}
+use Rattle.streams.specs.declared.Input.{Input}
+use Rattle.streams.specs.Input.{bytesOf}
 use Rattle.ctsim.proofs.main.Statement.{statement}
 use Rattle.ctsim.proofs.main.Tie as tie
 

@@ -159,4 +159,34 @@ extern "C" {
         interval: u64,
         limit: u64,
     ) -> u64;
+    pub fn ctsim_file_topology(
+        topology: u64,
+        first: u64,
+        second: u64,
+        repeats: u64,
+        round_slots_given: u64,
+        round_slots: u64,
+        loss: f64,
+        seed: u64,
+        proposals: u64,
+        interval: u64,
+        limit: u64,
+        logs: *mut u8,
+        logs_length: usize,
+        records: *mut u64,
+        records_length: usize,
+        snapshots: *mut u64,
+        snapshots_length: usize,
+        file: *mut u8,
+        file_length: usize,
+        written: *mut u64,
+        written_length: usize,
+    ) -> u64;
+    pub fn ctsim_file_sections(
+        file: *const u8,
+        file_length: usize,
+        parts: *mut u64,
+        parts_length: usize,
+    ) -> u64;
+    pub fn ctsim_file_check(file: *const u8, file_length: usize) -> u64;
 }

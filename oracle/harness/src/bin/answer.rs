@@ -1,6 +1,7 @@
 //! Answers lines: one given as an argument, or all of standard input.
 
-use oracle::{run, Answer, Input, Line, Packet, Sweep, Swept};
+use oracle::archive::Verdict;
+use oracle::{run, Answer, Checking, Filed, Filing, Input, Line, Packet, Sweep, Swept};
 use std::io::{self, BufRead, BufWriter, Write};
 use std::process::ExitCode;
 
@@ -24,8 +25,17 @@ behind the lines; or `refused N`, by 15 if COUNT is above 65536 or LENGTH below
 7 * COUNT. The line
   validity LINE
 is answered with `current` if LINE is accepted, `outdated` if 16 alone refuses it,
-else `refused N`, by the first question other than 16. Nothing is run. Two more are
-about packets on the wire:
+else `refused N`, by the first question other than 16. Nothing is run. Two lines are
+about archive files of a run, with room for ROOM snapshots; LINE is of a topology:
+  file ROOM LENGTH LINE
+  check HOW N ROOM LINE
+The first is answered with `file SIZE BYTES`, BYTES in hexadecimal but for four zeros
+or more in a row, which are `zCOUNT.`; or with `refused N`, by 18 if SIZE is above
+LENGTH. The second damages the file (HOW N is `whole 0`, `flip` with a bit, `cut` with
+a length, `grow` with a number of zeros, `set` with 256 * PLACE + BYTE) and is answered
+with `yes` or `no`, by a run of its first section, `sections` and the offset and length
+of each section; or with `refused N`, by 17 if the layout is broken. Two more are about
+packets on the wire:
   packet N p0 .. p12
   text TEXT
 The first, N the number of flags, is answered with the packet's text, the second,
@@ -142,6 +152,8 @@ fn print_answer(
         Some(Line::Run { round, input }) => faults = print_of_run(options, round, &input, output)?,
         Some(Line::Sweep(sweep)) => faults = print_sweep(options, &sweep, output)?,
         Some(Line::Validity(input)) => write!(output, "{}", input.validity())?,
+        Some(Line::File(filing)) => faults = print_file(options, &filing, output)?,
+        Some(Line::Check(checking)) => faults = print_check(options, &checking, output)?,
         Some(Line::Packet(packet)) => print_found(packet.write(), output)?,
         Some(Line::Text(text)) => {
             let packet = Packet::read(&text);
@@ -169,19 +181,16 @@ fn print_of_run(
     input: &Input,
     output: &mut impl Write,
 ) -> io::Result<Vec<String>> {
-    let mut faults = Vec::new();
     let answer = run(input);
     match round {
         Some(round) => write!(output, "{}", answer.preview(round))?,
         None => print_run(options, &answer, output)?,
     }
-    if let Answer::Panicked(message) = &answer {
-        faults.push(panicked(message));
-    }
-    if options.reference {
-        faults.extend(oracle::reference_difference(input));
-    }
-    Ok(faults)
+    let message = match &answer {
+        Answer::Panicked(message) => Some(message.as_str()),
+        _ => None,
+    };
+    Ok(faults(options, input, message))
 }
 
 /// Prints the answer to a sweep, and gives back what was wrong.
@@ -202,6 +211,45 @@ fn print_sweep(
         _ => {}
     }
     Ok(faults)
+}
+
+/// Prints the answer to a filing, and gives back what was wrong.
+fn print_file(
+    options: &Options,
+    filing: &Filing,
+    output: &mut impl Write,
+) -> io::Result<Vec<String>> {
+    let filed = filing.run();
+    write!(output, "{filed}")?;
+    let message = match &filed {
+        Filed::Panicked(message) => Some(message.as_str()),
+        _ => None,
+    };
+    Ok(faults(options, &filing.input, message))
+}
+
+/// Prints the answer to a check, and gives back what was wrong.
+fn print_check(
+    options: &Options,
+    checking: &Checking,
+    output: &mut impl Write,
+) -> io::Result<Vec<String>> {
+    let verdict = checking.run();
+    write!(output, "{verdict}")?;
+    let message = match &verdict {
+        Verdict::Panicked(message) => Some(message.as_str()),
+        _ => None,
+    };
+    Ok(faults(options, &checking.input, message))
+}
+
+/// What was wrong with a run of the input; the message is that of a panic.
+fn faults(options: &Options, input: &Input, message: Option<&str>) -> Vec<String> {
+    let mut faults: Vec<String> = message.map(panicked).into_iter().collect();
+    if options.reference {
+        faults.extend(oracle::reference_difference(input));
+    }
+    faults
 }
 
 fn panicked(message: &str) -> String {

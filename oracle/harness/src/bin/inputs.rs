@@ -12,6 +12,7 @@ usage: inputs small
        inputs packets SEED COUNT
        inputs sweeps SEED COUNT
        inputs validities SEED COUNT
+       inputs files SEED COUNT
 
 Prints lines for `answer`.
   small       every topology of 2 to 4 nodes and the rows of every labelled graph of
@@ -29,6 +30,9 @@ Prints lines for `answer`.
               longer or too short
   validities  COUNT lines `validity LINE`: accepted, refused by 16, by 16 and others, or
               by others; a few are unreadable
+  files       COUNT lines, `file ROOM LENGTH LINE` and `check HOW N ROOM LINE` in turn,
+              most of them accepted: with room for no snapshot, some, all and more, for
+              files that fit exactly, more than that or not, and of each damage
 The same SEED gives the same lines.
 ";
 
@@ -77,6 +81,10 @@ fn print_lines(arguments: &[String]) -> Result<(), String> {
         ["validities", seed, count] => {
             let count = number("COUNT", count)? as usize;
             write_all(oracle::validities(number("SEED", seed)?).take(count))
+        }
+        ["files", seed, count] => {
+            let count = number("COUNT", count)? as usize;
+            write_all(oracle::file_lines(number("SEED", seed)?).take(count))
         }
         _ => Err(format!("wrong arguments\n\n{HELP}")),
     }

@@ -55,6 +55,7 @@ returns c =
             slot = x .slot;
             «next_snapshot» = x .«next_snapshot»;
             snapshots = x .snapshots;
+            «first_stored» = x .«first_stored»;
           };
       queue = ap (set (now (start .args .queue)) (start .args .settings .repeats - 1)) own;
     }

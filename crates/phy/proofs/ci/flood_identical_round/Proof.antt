@@ -60,7 +60,7 @@ slots-requires c κs =
     let pre = start begun .pre in
     let sound = pre .sound in
     let opened = begun .begin-round .ensures in (
-      subst⁻¹ (Sound (a .settings)) (opened .flood) (record { few = sound .few; repeats = sound .repeats; interval = sound .interval; attempts = sound .attempts; successes = sound .successes; next = sound .next }),
+      subst⁻¹ (Sound (a .settings)) (opened .flood) (record { few = sound .few; repeats = sound .repeats; interval = sound .interval; attempts = sound .attempts; successes = sound .successes; next = sound .next; stored = sound .stored }),
       omega (arith, pre .early, ap (λ (z : Radios). z .slot .0) (opened .flood)),
       record {
         heard = pre .heard;
@@ -92,6 +92,7 @@ returns c =
     record {
       sound = run .sound;
       slots = omega (arith, run .slots, ap (λ (z : Radios). z .slot .0) (opened .flood));
+      first = run .first ∙ ap (λ (z : Radios). z .«first_stored») (opened .flood);
       room = run .room;
       source = λ heard s. run .source heard (begun-source begun heard s);
       stands = λ heard source packet b₀ s st.

@@ -19,6 +19,7 @@ use Rattle.phy.proofs.ci.slots.Tie as tie
 record Onward (g : Settings) (rows : List ℕ) (longest : ℕ) (x₀ : Radios) (t₀ : Tables) (x : Radios) (t : Tables) (more place : ℕ) : Type 0 where
   sound : Sound g x
   slots-left : x .slot .0 + more ≤ x₀ .slot .0 + longest
+  first : x .«first_stored» ≡ x₀ .«first_stored»
   size : length (t .snapshots) ≡ length (t₀ .snapshots)
   met : Meets g place x t
   source : (heard : ℕ → Bool) → Source (g .rate) heard (x₀ .attempts) (t₀ .stream) → Source (g .rate) heard (x .attempts) (t .stream)
@@ -48,6 +49,7 @@ module _ {g : Settings} {rows : List ℕ} {longest : ℕ} {x₀ : Radios} {t₀ 
       (record {
         sound = stepped .sound;
         slots-left = omega (arith, stepped .slots, o .slots-left, some);
+        first = stepped .first ∙ o .first;
         size = same ∙ o .size;
         met = met-next;
         source = λ heard s. stepped .source heard (o .source heard s);
@@ -64,6 +66,7 @@ module _ {g : Settings} {rows : List ℕ} {longest : ℕ} {x₀ : Radios} {t₀ 
       record {
         sound = stepped .sound;
         slots = omega (arith, stepped .slots, o .slots-left, some);
+        first = stepped .first ∙ o .first;
         room = met-next .here .queued .room;
         source = λ heard s. stepped .source heard (o .source heard s);
         stands = λ heard source b₀ s₀ here₀.
@@ -84,7 +87,7 @@ abbrev μ-loop : tie.MeasureT-loop
 loop-holds : tie.Need-loop-holds Inv-loop μ-loop
 loop-holds c =
     let pre = c .before .pre in
-    record { sound = pre .0; slots-left = omega arith; size = refl; met = pre .2; source = λ heard s. s; here = λ heard source b₀ s here. (s, here, refl) }
+    record { sound = pre .0; slots-left = omega arith; first = refl; size = refl; met = pre .2; source = λ heard s. s; here = λ heard source b₀ s here. (s, here, refl) }
 
 slot-requires : tie.Need-slot-requires Inv-loop μ-loop
 slot-requires c κs =
@@ -131,6 +134,7 @@ returns-2 c =
     record {
       sound = l .inv .sound;
       slots = omega (arith, l .inv .slots-left);
+      first = l .inv .first;
       room = l .inv .met .here .queued .room;
       source = l .inv .source;
       stands = λ heard source b₀ s₀ here₀.

@@ -62,20 +62,20 @@ attempts-requires c κs =
 advance-requires : tie.Need-advance-requires
 advance-requires c κs = let pre = entered (c .before .before .before) .pre in omega (arith, pre .0 .repeats .1, pre .2 .here .queued .place)
 
-add-t24 : tie.Need-add-t24
-add-t24 c = record { fits = few (shown-at c) .0 }
-
 add-t25 : tie.Need-add-t25
-add-t25 c = record { fits = few (shown-at (c .before .before)) .1 }
+add-t25 c = record { fits = few (shown-at c) .0 }
 
 add-t26 : tie.Need-add-t26
-add-t26 c = record { fits = few (shown-at (c .before .before .before .before)) .2 }
+add-t26 c = record { fits = few (shown-at (c .before .before)) .1 }
 
 add-t27 : tie.Need-add-t27
-add-t27 c = omega (arith, shown-at (c .before .before .before .before .before) .before .before .before .pre .1)
+add-t27 c = record { fits = few (shown-at (c .before .before .before .before)) .2 }
+
+add-t28 : tie.Need-add-t28
+add-t28 c = omega (arith, shown-at (c .before .before .before .before .before) .before .before .before .pre .1)
 
 same-length : tie.Need-same-length
-same-length c = shot-at (attempted (called (c .before .before .before .before .before))) .take-snapshots .kept .1 .1 .1 .1 .0
+same-length c = shot-at (attempted (called (c .before .before .before .before .before))) .take-snapshots .kept .1 .1 .1 .1 .1 .0
 
 returns : tie.Need-returns
 returns c =
@@ -95,8 +95,10 @@ returns c =
         attempts = omega (arith, sound .attempts, sound .few, tried .ensures .attempts);
         successes = omega (arith, sound .successes, sound .few, tried .ensures .successes);
         next = taken .ensures .multiple;
+        stored = omega (arith, sound .stored, taken .ensures .more);
       };
       slots = refl;
+      first = refl;
       source = tried .ensures .source;
       stands = λ heard source b₀ s here.
           slot-stands (a .settings) (now (a .rows)) heard (a .place) (a .x) (tables (now (a .queue)) (now (a .stream)) (now (a .snapshots))) b₀ s here (seen .result) (seen .ensures)
@@ -111,9 +113,9 @@ slot-spec =
     take-snapshots-requires
     attempts-requires
     advance-requires
-    add-t24
     add-t25
     add-t26
     add-t27
+    add-t28
     same-length
     returns)

@@ -10,20 +10,24 @@ use Rattle.phy.proofs.snapshot.take_snapshots.Statement.{statement}
 use Rattle.phy.proofs.snapshot.take_snapshots.Tie as tie
 
 abbrev Inv-loop : tie.InvT-loop
-Inv-loop interval shown snapshots₀ this next₀ count₀ snapshots next count =
+Inv-loop interval shown first snapshots₀ this next₀ count₀ snapshots next count =
     (length snapshots ≡ length snapshots₀)
     × (next ≡ count * interval)
-    × ((b₀ : List ℕ) (x₀ : Shots) → Scheduled next₀ count₀ b₀ snapshots₀ x₀
+    × (count₀ ≤ count)
+    × ((b₀ : List ℕ) (x₀ : Shots) → Scheduled first next₀ count₀ b₀ snapshots₀ x₀
     → (most : ℕ) × (x : Shots)
     × (this < next + most)
-    × Scheduled next count b₀ snapshots x
+    × Scheduled first next count b₀ snapshots x
     × (takeWhile interval (shotOf shown) this most x ≡ takeWhile interval (shotOf shown) this (suc this) x₀))
 
 abbrev μ-loop : tie.MeasureT-loop
-μ-loop interval shown snapshots₀ this next₀ count₀ snapshots next count = suc this - next
+μ-loop interval shown first snapshots₀ this next₀ count₀ snapshots next count = suc this - next
 
 loop-holds : tie.Need-loop-holds Inv-loop μ-loop
-loop-holds c = (refl, c .before .pre .2, λ b₀ x₀ r. (suc (c .before .args .slot .0), x₀, omega arith, r, refl))
+loop-holds c = (refl, c .before .pre .2, omega arith, λ b₀ x₀ r. (suc (c .before .args .slot .0), x₀, omega arith, r, refl))
+
+sub-take-snapshot : tie.Need-sub-take-snapshot Inv-loop μ-loop
+sub-take-snapshot c = omega (arith, c .before .loop .inv .2, c .before .before .before .pre .3)
 
 take-snapshot-requires : tie.Need-take-snapshot-requires Inv-loop μ-loop
 take-snapshot-requires c κs = tt
@@ -58,15 +62,16 @@ loop-again c =
     let shot = shotOf (a .shown) in (
       taken .kept .1 .1 .1 .0 ∙ l .inv .0,
       ap (λ (k : ℕ). k + a .interval) (l .inv .1) ∙ one-more (l .count) (a .interval),
+      omega (arith, l .inv .2),
       λ b₀ x₀ r₀.
-          let so-far = l .inv .2 b₀ x₀ r₀ in
+          let so-far = l .inv .3 b₀ x₀ r₀ in
           let most = so-far .0 in
           let x = so-far .1 in
           let left : most ≡ suc (most - 1) = omega (arith, so-far .2, due) in (
             most - 1,
             takeOne (a .interval) shot x,
             omega (arith, so-far .2, start .pre .0),
-            scheduled-one (a .interval) shot refl (so-far .3) (taken .ensures),
+            scheduled-one (a .interval) shot refl (omega (arith, l .inv .2, start .pre .3)) (so-far .3) (taken .ensures),
             sym (one-due (a .interval) shot (a .slot .0) (most - 1) x (omega (arith, so-far .3 .due, due)))
                 ∙ ap (λ (k : ℕ). takeWhile (a .interval) shot (a .slot .0) k x) (sym left)
                 ∙ so-far .4,
@@ -82,9 +87,10 @@ returns c =
     let a = c .before .before .before .args in
     record {
       multiple = l .inv .1;
+      more = l .inv .2;
       scheduled = λ b₀ x₀ r₀.
-          let all = l .inv .2 b₀ x₀ r₀ in
-          subst (Scheduled (l .next) (l .count) b₀ (l .snapshots))
+          let all = l .inv .3 b₀ x₀ r₀ in
+          subst (Scheduled (a .first) (l .next) (l .count) b₀ (l .snapshots))
           (sym (none-due (a .interval) (shotOf (a .shown)) (a .slot .0) (all .0) (all .1) (omega (arith, all .3 .due, c .loop-test .left))) ∙ all .4) (all .3);
     }
 
@@ -95,6 +101,7 @@ take-snapshots-spec =
     Inv-loop
     μ-loop
     loop-holds
+    sub-take-snapshot
     take-snapshot-requires
     add-next
     add-count

@@ -3,7 +3,7 @@ use borrow.Author.Needs.{needs}
 use denote.Ref.{now}
 use Rattle.pipeline.proofs.Recordings.{records-few}
 use Rattle.rounds.proofs.Beginning.{zeros-blank}
-use Rattle.rounds.proofs.Underway.{kept-all}
+use Rattle.rounds.proofs.Underway.{kept-all, states-are}
 use Rattle.sim.proofs.Filled.{finishes}
 use Rattle.sim.proofs.outcome.run_over.Statement.{statement}
 use Rattle.sim.proofs.outcome.run_over.Tie as tie
@@ -40,7 +40,11 @@ returns : tie.Need-returns
 returns c =
     let at = c .before .before .before .before .before .before .before .before .before .before .before .before .before .before .before in
     let a = start at .args in
-    finishes (at .play .ensures) (now (a .logs)) (now (a .records)) (c .summary-of .ensures) (c .before .before .before .before .before .before .before .before .write-logs .ensures) (c .before .before .before .write-records .ensures)
+    record {
+      buffers = finishes (at .play .ensures) (now (a .logs)) (now (a .records)) (c .summary-of .ensures) (c .before .before .before .before .before .before .before .before .write-logs .ensures) (c .before .before .before .write-records .ensures);
+      kept = kept-all (at .play .ensures .goes .steady);
+      states = states-are (at .play .ensures .goes .shows);
+    }
 
 pub run-over-spec : {M : Type 1} → statement M
 run-over-spec =

@@ -1,0 +1,6 @@
+-- What is right for the crate `archive`.
+pub mod Bytes
+pub mod Layout
+pub mod Inputs
+pub mod File
+pub mod Laws

@@ -1,0 +1,2 @@
+-- Lemmas that several proofs of the crate use.
+pub mod Rates

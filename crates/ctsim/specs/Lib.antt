@@ -1,2 +1,0 @@
--- What is right for the program.
-pub mod Input

@@ -1,0 +1,2 @@
+-- What is right for the program.
+pub mod Verdict

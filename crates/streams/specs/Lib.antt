@@ -1,0 +1,2 @@
+-- What is right for the crate `streams`.
+pub mod Input
