@@ -7,8 +7,8 @@
  *
  * Build the library with `rt staticlib capi` and link target/staticlib/libcapi.a. It is for x86-64
  * Linux. It keeps nothing between calls, so that threads may call it at the same time. A run, a
- * preview or a sweep takes about 60,000 bytes of the caller's stack, and a check of an archive file at
- * most about 250,000, whatever the file's length.
+ * preview or a sweep takes about 80,000 bytes of the caller's stack, filing a run at most about 130,000,
+ * and a check of an archive file at most about 250,000, whatever the file's length.
  *
  * Results. Every entry returns 0 if it is done, else a number of `enum ctsim_result`. Where it
  * returns another number than 0, it has written nothing.

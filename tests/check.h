@@ -32,7 +32,7 @@ struct run {
     double loss;
     uint64_t seed, proposals, interval, limit, round;
     size_t summary_length, logs_length, records_length, snapshots_length, packet_length, part_length;
-    size_t table_length, rounds_length;
+    size_t table_length, rounds_length, file_length, written_length;
 };
 
 /* A run that loses packets, with NACKs and piggybacks. */
