@@ -8,6 +8,7 @@ use super::ratios::Ratio;
 const EXACT_COUNT: u64 = 9007199254740992;
 
 // None for a zero divisor, else the quotient; refused where a count is above 2^53.
+#[tactic(auto, using(crate::proofs::Quotients::count_cast), unfolding(crate::specs::Ratio::ratio_of, crate::specs::Ratio::quotient))]
 pub fn ratio(part: u64, whole: u64) -> Ratio
     ensures { result ≡ ratio_of part whole }
 {

@@ -6,7 +6,7 @@ use super::ratio::ratio;
 use super::summary::Summary;
 
 // No ratio, the ratio, or the refusal with its number.
-#[derive(Drop)]
+#[derive(Clone, Copy)]
 pub enum Ratio {
     None,
     Of(f64),

@@ -1,6 +1,6 @@
 // The summary of a run (rule 7.5). The last two are the records, and all snapshots that were taken,
 // stored or not.
-#[derive(Drop)]
+#[derive(Clone, Copy)]
 pub struct Summary {
     pub nodes: u64,
     pub rounds: u64,

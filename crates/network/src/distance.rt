@@ -10,7 +10,7 @@ use crate::units::NodeId;
 use config::limits::MAX_NODES;
 
 // What asking for a diameter answers: the number of links, or the number of the question that was answered "no".
-#[derive(Drop)]
+#[derive(Clone, Copy)]
 pub enum Measured {
     Links(usize),
     Refused(u64),

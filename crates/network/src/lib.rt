@@ -1,4 +1,6 @@
 // Units and graphs: what the flood and the run rest on.
+#![tactic(auto)]
+
 pub mod distance;
 pub mod graph;
 mod neighbours;

@@ -12,7 +12,7 @@ use crate::units::NodeId;
 use config::limits::{MAX_BRANCHING, MAX_NODES, MIN_NODES};
 
 // A topology, a grid with its columns and a tree with its branching factor.
-#[derive(Drop)]
+#[derive(Clone, Copy)]
 pub enum Topology {
     FullMesh,
     Line,
@@ -23,7 +23,7 @@ pub enum Topology {
 }
 
 // What building rows answers: the number of nodes, or the number of the question that was answered "no".
-#[derive(Drop)]
+#[derive(Clone, Copy)]
 pub enum Built {
     Nodes(usize),
     Refused(u64),
@@ -31,7 +31,7 @@ pub enum Built {
 
 // A graph as a run takes it: the rows as sets of 64 bits, and empty ones from the number of nodes on. A refusal has no
 // link at all.
-#[derive(Drop)]
+#[derive(Clone, Copy)]
 pub struct BuiltGraph {
     pub answer: Built,
     pub rows: [u64; MAX_NODES],

@@ -2,13 +2,13 @@
 // can be passed where another is meant.
 
 // A node's number, from 0.
-#[derive(Drop)]
+#[derive(Clone, Copy)]
 pub struct NodeId(pub usize);
 
 // A proposal's number, from 0.
-#[derive(Drop)]
+#[derive(Clone, Copy)]
 pub struct Term(pub u64);
 
 // A slot's number, from 0: the unit of time.
-#[derive(Drop)]
+#[derive(Clone, Copy)]
 pub struct Slot(pub u64);

@@ -11,7 +11,7 @@ pub const KEY_SIZE: usize = 8;
 pub const BLOCK_SIZE: usize = 16;
 
 // Four words of the state.
-#[derive(Drop)]
+#[derive(Clone, Copy)]
 pub struct Quad {
     pub a: u32,
     pub b: u32,

@@ -1,4 +1,6 @@
 // The draws of a seed: ChaCha, a draw's fraction, and whether a reception succeeds.
+#![tactic(auto)]
+
 pub mod chacha;
 pub mod draws;
 pub mod reception;

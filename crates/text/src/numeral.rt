@@ -3,7 +3,7 @@ ghost use Rattle.std.specs.Prelude.{◌≡◌, ◌≤◌, ◌<◌};
 ghost use Rattle.text.specs.Numeral as Numeral;
 
 // The number that a text stands for.
-#[derive(Drop)]
+#[derive(Clone, Copy)]
 pub enum Number {
     Of(u64),
     Unreadable,
@@ -55,6 +55,7 @@ pub fn numeral(base: u64, text: &[u8]) -> Number
 }
 
 // A decimal: 1 to 20 digits, below 2^64.
+#[tactic(auto, unfolding(crate::specs::Numeral::decimal))]
 pub fn decimal(text: &[u8]) -> Number
     ensures { Numeral.number_of result ≡ Numeral.decimal text.now }
 {

@@ -14,58 +14,58 @@ use Rattle.network.proofs.Spread.{touches, touches_stop, touches_or, touches_is}
 use Rattle.network.proofs.distance.linked_to.Statement.{statement}
 use Rattle.network.proofs.distance.linked_to.Tie as tie
 
-abbrev invariant_loop : tie.invariant_loop
+abbrev invariant_loop : tie.invariant-loop-rest
 invariant_loop rows n edge found₀ rest₀ found rest = (m : ℕ) × (m ≤ n) × Walked edge rest m × (found < 2 ^ n) × ((j : ℕ) → has found j ≡ touches rows edge m j)
 
-abbrev decreases_loop : tie.decreases_loop
+abbrev decreases_loop : tie.decreases-loop-rest
 decreases_loop rows n edge found₀ rest₀ found rest = rest
 
 -- what the lowest node of the rest is
-next : (c : tie.In-loop invariant_loop decreases_loop) → let l = c.before.loop in Next 64 c.before.before.args.edge l.rest l.invariant.0 (count_trailing_zeros 64 l.rest)
-next c = walked_next 64 (omega (arith, c.before.loop.invariant.2.part)) c.loop-test.true c.before.loop.invariant.2
+next : (c : tie.In-loop-rest invariant_loop decreases_loop) → let l = c.loop-rest in Next 64 c.args.edge l.rest l.invariant.0 (count_trailing_zeros 64 l.rest)
+next c = walked_next 64 (omega (arith, c.loop-rest.invariant.2.part)) c.loop-rest-test.true c.loop-rest.invariant.2
 
-node : (c : tie.In-loop invariant_loop decreases_loop) → count_trailing_zeros 64 c.before.loop.rest < c.before.before.args.n
-node c = has_below c.before.before.requires.1.1 _ (next c).is
+node : (c : tie.In-loop-rest invariant_loop decreases_loop) → count_trailing_zeros 64 c.loop-rest.rest < c.args.n
+node c = has_below c.requires.1.1 _ (next c).is
 
-loop_holds : tie.Need-loop-init invariant_loop decreases_loop
+loop_holds : tie.Need-loop-rest-init invariant_loop decreases_loop
 unfolding touches any
 loop_holds c = (0, zero-le, walked_none c.args.edge, pow_pos c.args.n, λ j. has_out {n = 0} (pow_pos 0) j zero-le)
 
-cast_t : tie.Need-overflow-cast-t invariant_loop decreases_loop
+cast_t : tie.Need-overflow_cast-t invariant_loop decreases_loop
 cast_t c = omega (arith, node c)
 
-mul_found : tie.Need-overflow-mul-found invariant_loop decreases_loop
+mul_found : tie.Need-offset_bounds-rows-t invariant_loop decreases_loop
 mul_found c = omega (arith, node c)
 
-element_copy_out_found : tie.Need-element-copy-out-found invariant_loop decreases_loop
-element_copy_out_found c = omega (arith, node c)
+element_copy_out_found : tie.Need-bounds-rows-t invariant_loop decreases_loop
+element_copy_out_found c = omega (arith, node c.before)
 
-sub_rest : tie.Need-overflow-sub-rest invariant_loop decreases_loop
-sub_rest c = nonzero c.before.loop-test.true
+sub_rest : tie.Need-overflow_sub-rest invariant_loop decreases_loop
+sub_rest c = nonzero c.loop-rest-test.true
 
-loop_less : tie.Need-loop-smaller invariant_loop decreases_loop
-loop_less c = (next c.before).fewer
+loop_less : tie.Need-loop-rest-smaller invariant_loop decreases_loop
+loop_less c = (next c.before.before).fewer
 
-loop_again : tie.Need-loop-preserved invariant_loop decreases_loop
+loop_again : tie.Need-loop-rest-preserved invariant_loop decreases_loop
 loop_again c =
-    let b = c.before.before in
-    let a = b.before.args in
-    let l = b.loop in
+    let b = c in
+    let a = b.args in
+    let l = b.loop-rest in
     let t = count_trailing_zeros 64 l.rest in
-    let x = next c.before in (
+    let x = next c.before.before in (
       t + 1,
-      omega (arith, node c.before),
+      omega (arith, node c.before.before),
       x.onward,
-      or_lt a.n l.found (get_or a.rows.now t 0) l.invariant.3 (b.before.requires.1.0.narrow t (node c.before)),
+      or_lt a.n l.found (get_or a.rows.now t 0) l.invariant.3 (b.requires.1.0.narrow t (node c.before.before)),
       touches_or a.rows.now a.edge l.found l.invariant.4 x.from x.none x.is,
     )
 
 returns : tie.Need-returns invariant_loop decreases_loop
 unfolding touches
 returns c =
-    let a = c.before.before.args in
-    let l = c.before.loop in
-    let done : Walked a.edge 0 l.invariant.0 = subst (λ (r : ℕ). Walked a.edge r l.invariant.0) c.loop-test.false l.invariant.2 in
+    let a = c.args in
+    let l = c.loop-rest in
+    let done : Walked a.edge 0 l.invariant.0 = subst (λ (r : ℕ). Walked a.edge r l.invariant.0) c.loop-rest-test.false l.invariant.2 in
     touches_is a.rows.now a.edge a.n l.found l.invariant.3
     (λ j. l.invariant.4 j ∙ touches_stop a.rows.now a.edge j l.invariant.1 (λ i m _. walked_all done i m))
 

@@ -16,42 +16,42 @@ use Rattle.network.proofs.distance.measure.Statement.{statement}
 use Rattle.network.proofs.distance.measure.Tie as tie
 
 -- past questions 2 and 4: the nodes, and their rows
-found : (c : tie.After-answer2) → let g = c.before.before in let a = g.before.before.args in let n = c.answer2.given.0.0 in
-    (first_no (rows_questions a.rows.now a.n) ≡ none) × (n ≡ a.n) × (g.checked-graph.result.rows ≡ widened a.rows.now a.n)
+found : (c : tie.In-Nodes) → let g = c in let a = g.args in let n = c.in-Nodes.nodes in
+    (first_no (rows_questions a.rows.now a.n) ≡ none) × (n ≡ a.n) × (g.checked_graph-checked.result.rows ≡ widened a.rows.now a.n)
 found c =
-    let g = c.before.before in
-    let a = g.before.before.args in
-    graph_found a.rows.now a.n _ g.checked-graph.result g.checked-graph.ensures _ c.answer2.given.1
+    let g = c in
+    let a = g.args in
+    graph_found a.rows.now a.n _ g.checked_graph-checked.result g.checked_graph-checked.ensures _ c.in-Nodes.is
 
-diameter_of_requires : tie.Need-diameter-of-requires
+diameter_of_requires : tie.Need-diameter_of-requires
 diameter_of_requires c κs =
-    let m = c.before.before.before in
-    let a = m.before.before.before.before.args in
-    let f = found m in
+    let m = c in
+    let a = m.args in
+    let f = found c.before.before in
     let s = rows_sized a.rows.now a.n f.0 in
-    let n : ℕ = m.answer2.given.0.0 in (
+    let n : ℕ = m.in-Nodes.nodes in (
       subst (λ (k : ℕ). k ≤ max_nodes) (sym f.1) s.0.1,
       subst (λ (l : List ℕ). Checked l n) (sym f.2) (subst (Checked (widened a.rows.now a.n)) (sym f.1) (wide_checked a.rows.now a.n s.1)),
     )
 
-returns : tie.Need-returns
+returns : tie.Need-returns-in-Refused
 unfolding measured
 returns c =
-    let g = c.before.before.before in
-    let a = g.before.before.args in
+    let g = c in
+    let a = g.args in
     ap (measured_as (diameter a.rows.now a.n))
-    (sym (graph_refused a.rows.now a.n (first_no (rows_questions a.rows.now a.n)) g.checked-graph.result g.checked-graph.ensures _ c.before.answer.given.1))
+    (sym (graph_refused a.rows.now a.n (first_no (rows_questions a.rows.now a.n)) g.checked_graph-checked.result g.checked_graph-checked.ensures _ c.in-Refused.is))
 
-returns_2 : tie.Need-returns-2
+returns_2 : tie.Need-returns-in-Nodes
 unfolding measured
 returns_2 c =
-    let m = c.before.before.before.before in
-    let a = m.before.before.before.before.args in
+    let m = c in
+    let a = m.args in
     let rows : List ℕ = a.rows.now in
-    let f = found m in
+    let f = found c.before.before.before in
     let s = rows_sized rows a.n f.0 in
     ap Links
-    (c.diameter-of.ensures
+    (c.diameter_of.ensures
     ∙ (λ i. diameter (f.2 i) (f.1 i))
     ∙ sym (diameter_agree rows (widened rows a.n) a.n (λ i h. sym (get_d_widened rows a.n s.1.enough i h))))
     ∙ ap (measured_as (diameter rows a.n)) (sym f.0)

@@ -10,10 +10,10 @@ use borrow.Author.Rules.{rules}
 use Rattle.network.proofs.neighbours.back.Statement.{statement}
 use Rattle.network.proofs.neighbours.back.Tie as tie
 
-returns : tie.Need-returns
-returns c = let a = c.before.before.args in c.only.ensures ∙ back_set a.n a.i a.k c.before.if1.true
+returns : tie.Need-returns-then-k-i
+returns c = let a = c.before.before.args in c.only.ensures ∙ back_set a.n a.i a.k c.before.if-k-i.true
 
-returns_2 : tie.Need-returns-2
+returns_2 : tie.Need-returns-else-k-i
 returns_2 c = let a = c.before.args in sym (set_of_none a.n (λ j. eqb (j + a.k) a.i) (λ j l. ne_eqb (j + a.k) a.i (λ e. omega (arith, e))))
 
 pub back_spec : {M : Type 1} → statement M

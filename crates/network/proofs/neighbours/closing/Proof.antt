@@ -13,13 +13,13 @@ use borrow.Author.Rules.{rules}
 use Rattle.network.proofs.neighbours.closing.Statement.{statement}
 use Rattle.network.proofs.neighbours.closing.Tie as tie
 
-returns : tie.Need-returns
+returns : tie.Need-returns-then-n-le2
 returns c =
     let a = c.before.args in
     sym (set_of_none a.n (λ j. ltb 2 a.n && (first_and_last a.n a.i j || first_and_last a.n j a.i))
-    (λ j l. ap (λ (x : Bool). x && (first_and_last a.n a.i j || first_and_last a.n j a.i)) (le-ltb 2 a.n c.if1.true)))
+    (λ j l. ap (λ (x : Bool). x && (first_and_last a.n a.i j || first_and_last a.n j a.i)) (le-ltb 2 a.n c.if-n-le2.true)))
 
-returns_2 : tie.Need-returns-2
+returns_2 : tie.Need-returns-then-i-eq0
 returns_2 c =
     let a = c.before.before.before.args in
     c.only.ensures
@@ -27,22 +27,22 @@ returns_2 c =
     (λ j l.
     eqb_same (a.n - 1) j (j + 1) a.n (λ e. omega (arith, e)) (λ e. omega (arith, e))
     ∙ sym (or-false (eqb (j + 1) a.n))
-    ∙ sym (closes a.n a.i j (omega arith) (eq-eqb a.i 0 c.before.if2.true) (ne_eqb (a.i + 1) a.n (λ e. omega (arith, e)))))
+    ∙ sym (closes a.n a.i j (omega arith) (eq-eqb a.i 0 c.before.if-i-eq0.true) (ne_eqb (a.i + 1) a.n (λ e. omega (arith, e)))))
 
-returns_3 : tie.Need-returns-3
+returns_3 : tie.Need-returns-then-i-n
 returns_3 c =
     let a = c.before.before.before.before.args in
-    c.only2.ensures
+    c.only-then-i-n.ensures
     ∙ set_of_cong a.n
     (λ j l.
     eqb_same 0 j j 0 sym sym
-    ∙ sym (closes a.n a.i j (omega arith) (ne_eqb a.i 0 c.before.before.if2.false) (eq-eqb (a.i + 1) a.n c.before.if3.true)))
+    ∙ sym (closes a.n a.i j (omega arith) (ne_eqb a.i 0 c.before.before.if-i-eq0.false) (eq-eqb (a.i + 1) a.n c.before.if-i-n.true)))
 
-returns_4 : tie.Need-returns-4
+returns_4 : tie.Need-returns-else-i-n
 returns_4 c =
     let a = c.before.before.before.args in
     sym (set_of_none a.n (λ j. ltb 2 a.n && (first_and_last a.n a.i j || first_and_last a.n j a.i))
-    (λ j l. closes a.n a.i j (omega arith) (ne_eqb a.i 0 c.before.if2.false) (ne_eqb (a.i + 1) a.n c.if3.false)))
+    (λ j l. closes a.n a.i j (omega arith) (ne_eqb a.i 0 c.before.if-i-eq0.false) (ne_eqb (a.i + 1) a.n c.if-i-n.false)))
 
 pub closing_spec : {M : Type 1} → statement M
 closing_spec =

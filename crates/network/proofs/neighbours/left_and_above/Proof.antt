@@ -11,18 +11,18 @@ use borrow.Author.Rules.{rules}
 use Rattle.network.proofs.neighbours.left_and_above.Statement.{statement}
 use Rattle.network.proofs.neighbours.left_and_above.Tie as tie
 
-returns : tie.Need-returns
+returns : tie.Need-returns-then-i-c-gt0
 returns c =
     let s = c.before.before.before in
     let a = s.args in
-    test_yes a.n (λ j. eqb (j + 1) a.i) (λ j. eqb (j + a.c) a.i) (lt-ltb _ _ c.before.if1.true) c.back2.ensures c.before.before.back.ensures
+    test_yes a.n (λ j. eqb (j + 1) a.i) (λ j. eqb (j + a.c) a.i) (lt-ltb _ _ c.before.if-i-c-gt0.true) c.back.ensures c.before.before.back-above.ensures
     ∙ set_of_cong a.n (λ j _. ap (λ (x : Bool). x || eqb (j + a.c) a.i) (sym (left_is a.c a.i j s.requires.column)))
 
-returns_2 : tie.Need-returns-2
+returns_2 : tie.Need-returns-else-i-c-gt0
 returns_2 c =
     let s = c.before.before in
     let a = s.args in
-    test_no a.n (λ j. eqb (j + 1) a.i) (λ j. eqb (j + a.c) a.i) (le-ltb _ _ c.if1.false) c.before.back.ensures
+    test_no a.n (λ j. eqb (j + 1) a.i) (λ j. eqb (j + a.c) a.i) (le-ltb _ _ c.if-i-c-gt0.false) c.before.back-above.ensures
     ∙ set_of_cong a.n (λ j _. ap (λ (x : Bool). x || eqb (j + a.c) a.i) (sym (left_is a.c a.i j s.requires.column)))
 
 pub left_and_above_spec : {M : Type 1} → statement M

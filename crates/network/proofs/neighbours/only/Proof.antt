@@ -10,10 +10,10 @@ use borrow.Author.Rules.{rules}
 use Rattle.network.proofs.neighbours.only.Statement.{statement}
 use Rattle.network.proofs.neighbours.only.Tie as tie
 
-returns : tie.Need-returns
-returns c = let a = c.before.args in one_shl 64 a.j (omega arith) ∙ only_set a.n a.j c.if1.true
+returns : tie.Need-returns-then-j-n
+returns c = let a = c.before.args in one_shl 64 a.j (omega arith) ∙ only_set a.n a.j c.if-j-n.true
 
-returns_2 : tie.Need-returns-2
+returns_2 : tie.Need-returns-else-j-n
 returns_2 c = let a = c.before.args in sym (set_of_none a.n (eqb a.j) (λ b l. ne_eqb a.j b (λ e. omega (arith, e))))
 
 pub only_spec : {M : Type 1} → statement M

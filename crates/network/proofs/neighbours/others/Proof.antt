@@ -10,7 +10,7 @@ use borrow.Author.Rules.{rules}
 use Rattle.network.proofs.neighbours.others.Statement.{statement}
 use Rattle.network.proofs.neighbours.others.Tie as tie
 
-sub_result : tie.Need-overflow-sub-result
+sub_result : tie.Need-overflow_sub-result
 sub_result c = let a = c.before.args in omega (arith, c.full_set.ensures, one_shl 64 a.i (omega arith), pow-lt c.before.requires.1)
 
 returns : tie.Need-returns

@@ -14,20 +14,20 @@ use borrow.Author.Rules.{rules}
 use Rattle.network.proofs.neighbours.parent.Statement.{statement}
 use Rattle.network.proofs.neighbours.parent.Tie as tie
 
-returns : tie.Need-returns
-returns c = let a = c.before.args in sym (set_of_none a.n (λ j. child a.b j a.i) (λ j l. childless a.b a.i j c.if1.true))
+returns : tie.Need-returns-then-b-eq0
+returns c = let a = c.before.args in sym (set_of_none a.n (λ j. child a.b j a.i) (λ j l. childless a.b a.i j c.if-b-eq0.true))
 
-returns_2 : tie.Need-returns-2
+returns_2 : tie.Need-returns-then-i-eq0
 returns_2 c =
     let a = c.before.before.args in
     sym
     (set_of_none a.n (λ j. child a.b j a.i)
-    (λ j l. ap (λ (x : Bool). x && leb a.i (j * a.b + a.b)) (lt-leb (j * a.b + 1) a.i (omega (arith, c.if2.true)))))
+    (λ j l. ap (λ (x : Bool). x && leb a.i (j * a.b + a.b)) (lt-leb (j * a.b + 1) a.i (omega (arith, c.if-i-eq0.true)))))
 
-returns_3 : tie.Need-returns-3
+returns_3 : tie.Need-returns-else-i-eq0
 returns_3 c =
     let a = c.before.before.before.args in
-    c.only.ensures ∙ set_of_cong a.n (λ j _. parent_is a.b a.i j (nonzero c.before.before.if1.false) (nonzero c.before.if2.false))
+    c.only.ensures ∙ set_of_cong a.n (λ j _. parent_is a.b a.i j (nonzero c.before.before.if-b-eq0.false) (nonzero c.before.if-i-eq0.false))
 
 pub parent_spec : {M : Type 1} → statement M
 parent_spec =

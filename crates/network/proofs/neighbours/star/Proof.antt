@@ -7,11 +7,11 @@ use borrow.Author.Rules.{rules}
 use Rattle.network.proofs.neighbours.star.Statement.{statement}
 use Rattle.network.proofs.neighbours.star.Tie as tie
 
-returns : tie.Need-returns
-returns c = rw c.before.if1.true c.others.ensures
+returns : tie.Need-returns-then-i-eq0
+returns c = rw c.before.if-i-eq0.true c.others.ensures
 
-returns_2 : tie.Need-returns-2
-returns_2 c = let a = c.before.before.args in c.only.ensures ∙ set_of_cong a.n (λ j _. star_is a.i j c.before.if1.false)
+returns_2 : tie.Need-returns-else-i-eq0
+returns_2 c = let a = c.before.before.args in c.only.ensures ∙ set_of_cong a.n (λ j _. star_is a.i j c.before.if-i-eq0.false)
 
 pub star_spec : {M : Type 1} → statement M
 star_spec =

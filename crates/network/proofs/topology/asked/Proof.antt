@@ -12,25 +12,25 @@ use Rattle.network.proofs.Within.{within_both}
 use Rattle.network.proofs.topology.asked.Statement.{statement}
 use Rattle.network.proofs.topology.asked.Tie as tie
 
-returns : tie.Need-returns
-returns c = rw (sym c.before.before.lies_in.ensures ∙ not-true _ c.before.if1.true) c.refused.ensures
+returns : tie.Need-returns-then-not-lies_in
+returns c = rw (sym c.lies_in.ensures ∙ c.if-not-lies_in.true) c.refused.ensures
 
 -- past question 2
-few : (c : tie.Else1) → within min_nodes max_nodes c.before.before.args.nodes ≡ true
-few c = sym c.before.lies_in.ensures ∙ not-false _ c.if1.false
+few : (c : tie.Else-not-lies_in) → within min_nodes max_nodes c.args.nodes ≡ true
+few c = sym c.lies_in.ensures ∙ c.if-not-lies_in.false
 
-returns_2 : tie.Need-returns-2
-returns_2 c = rw (few c.before.before, lt-leb _ _ c.before.if2.true) c.refused2.ensures
+returns_2 : tie.Need-returns-then-most-second
+returns_2 c = rw (few c.before.before, lt-leb _ _ c.if-most-second.true) c.refused-then-most-second.ensures
 
-topology_rows_requires : tie.Need-topology-rows-requires
+topology_rows_requires : tie.Need-topology_rows-requires
 topology_rows_requires c κs =
-    let p = c.before.before.before.requires in
-    (((p.column, p.fits), omega arith), (within_both 2 max_nodes c.before.before.before.args.nodes (few c.before)).1)
+    let p = c.requires in
+    (((p.column, p.fits), omega arith), (within_both 2 max_nodes c.args.nodes (few c.before)).1)
 
-returns_3 : tie.Need-returns-3
+returns_3 : tie.Need-returns
 returns_3 c =
-    let n = c.before.before.before.before.args.nodes in
-    rw (few c.before.before, le-leb _ _ c.before.if2.false) (λ k. record { answer = Nodes n; rows = c.topology-rows.ensures k })
+    let n = c.args.nodes in
+    rw (few c.before.before, le-leb _ _ c.if-most-second.false) (λ k. record { answer = Nodes n; rows = c.topology_rows.ensures k })
 
 pub asked_spec : {M : Type 1} → statement M
 asked_spec =

@@ -16,57 +16,57 @@ use Rattle.network.proofs.Checks.{right_agree}
 use Rattle.network.proofs.topology.checked_graph.Statement.{statement}
 use Rattle.network.proofs.topology.checked_graph.Tie as tie
 
-returns : tie.Need-returns
-returns c = rw (sym c.before.before.lies_in.ensures ∙ not-true _ c.before.if1.true) c.refused.ensures
+returns : tie.Need-returns-then-not-lies_in
+returns c = rw (sym c.lies_in.ensures ∙ c.if-not-lies_in.true) c.refused.ensures
 
 -- the entry, from where the rows are enough
-abbrev entry : tie.Else2 → tie.Start
+abbrev entry : tie.Else-rows-nodes → tie.Start
 entry c = c.before.before.before.before
 
 -- past question 2
-few : (c : tie.Else2) → (within min_nodes max_nodes (entry c).args.n ≡ true) × ((entry c).args.n ≤ max_nodes)
+few : (c : tie.Else-rows-nodes) → (within min_nodes max_nodes (entry c).args.n ≡ true) × ((entry c).args.n ≤ max_nodes)
 few c =
-    let e = sym c.before.before.lies_in.ensures ∙ not-false _ c.before.if1.false in
+    let e = sym c.lies_in.ensures ∙ c.if-not-lies_in.false in
     (e, (within_both 2 max_nodes (entry c).args.n e).1)
 
-returns_2 : tie.Need-returns-2
+returns_2 : tie.Need-returns-then-rows-nodes
 unfolding question4
 returns_2 c =
-    let t = c.before in
-    rw (sym t.before.before.lies_in.ensures ∙ not-false _ t.before.if1.false, lt-leb _ _ t.if2.true) c.refused2.ensures
+    let t = c in
+    rw (sym t.lies_in.ensures ∙ t.if-not-lies_in.false, lt-leb _ _ t.if-rows-nodes.true) c.refused-then-rows-nodes.ensures
 
-widen_requires : tie.Need-widen-requires
-widen_requires c κs = ((few c).1, c.if2.false)
+widen_requires : tie.Need-widen-wide-requires
+widen_requires c κs = ((few c).1, c.if-rows-nodes.false)
 
-rows_right_requires : tie.Need-rows-right-requires
+rows_right_requires : tie.Need-rows_right-requires
 rows_right_requires c κs = (few c.before.before).1
 
 -- from the row check: where the rows are enough, the copy, and that its check is question 4 of the rows
-abbrev enough : tie.After-rows-right → tie.Else2
+abbrev enough : tie.After-rows_right → tie.Else-rows-nodes
 enough c = c.before.before.before
 
-verdict : (c : tie.After-rows-right) → let a = (entry (enough c)).args in rows_right a.rows.now a.n ≡ c.rows_right.result
+verdict : (c : tie.After-rows_right) → let a = (entry (enough c)).args in rows_right a.rows.now a.n ≡ c.rows_right.result
 verdict c =
     let q = enough c in
     let a = (entry q).args in
-    right_agree a.rows.now (widened a.rows.now a.n) a.n (λ i h. sym (get_d_widened a.rows.now a.n q.if2.left i h))
-    ∙ ap (λ (l : List ℕ). rows_right l a.n) (sym c.before.before.widen.ensures)
+    right_agree a.rows.now (widened a.rows.now a.n) a.n (λ i h. sym (get_d_widened a.rows.now a.n q.if-rows-nodes.false i h))
+    ∙ ap (λ (l : List ℕ). rows_right l a.n) (sym c.widen-wide.ensures)
     ∙ sym c.rows_right.ensures
 
-returns_3 : tie.Need-returns-3
+returns_3 : tie.Need-returns-then-not-rows_right
 unfolding question4
 returns_3 c =
-    let r = c.before.before in
-    let q = enough r in
-    rw ((few q).0, le-leb _ _ q.if2.left, verdict r ∙ not-true _ c.before.if3.true) c.refused3.ensures
+    let r = c in
+    let q = enough c.before.before in
+    rw ((few q).0, le-leb _ _ q.if-rows-nodes.false, verdict c.before.before ∙ c.if-not-rows_right.true) c.refused-then-not-rows_right.ensures
 
-returns_4 : tie.Need-returns-4
+returns_4 : tie.Need-returns
 unfolding question4
 returns_4 c =
-    let r = c.before in
-    let q = enough r in
-    rw ((few q).0, le-leb _ _ q.if2.left, verdict r ∙ not-false _ c.if3.false)
-    (λ k. record { answer = Nodes (entry q).args.n; rows = r.before.before.widen.ensures k })
+    let r = c in
+    let q = enough c.before in
+    rw ((few q).0, le-leb _ _ q.if-rows-nodes.false, verdict c.before ∙ c.if-not-rows_right.false)
+    (λ k. record { answer = Nodes (entry q).args.n; rows = r.widen-wide.ensures k })
 
 pub checked_graph_spec : {M : Type 1} → statement M
 checked_graph_spec =

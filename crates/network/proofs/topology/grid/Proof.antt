@@ -13,26 +13,26 @@ use borrow.Author.Rules.{rules}
 use Rattle.network.proofs.topology.grid.Statement.{statement}
 use Rattle.network.proofs.topology.grid.Tie as tie
 
-returns : tie.Need-returns
-returns c = rw (ap₂ ◌&&◌ (sym c.before.before.before.lies_in.ensures) (sym c.before.before.lies-in2.ensures) ∙ not-true _ c.before.if1.true) c.refused.ensures
+returns : tie.Need-returns-then-not-lies_in
+returns c = rw (ap₂ ◌&&◌ (sym c.lies_in.ensures) (sym c.lies_in-2.ensures) ∙ c.if-not-lies_in.true) c.refused.ensures
 
 -- past the test, rows and columns lie in 1 to 32
-sides : (c : tie.Else1) → let a = c.before.before.before.args in ((1 ≤ a.rows) × (a.rows ≤ max_nodes)) × ((1 ≤ a.columns) × (a.columns ≤ max_nodes))
+sides : (c : tie.Else-not-lies_in) → let a = c.args in ((1 ≤ a.rows) × (a.rows ≤ max_nodes)) × ((1 ≤ a.columns) × (a.columns ≤ max_nodes))
 sides c =
-    let a = c.before.before.before.args in
-    let r = and_both _ _ (not-false _ c.if1.false) in
-    (within_both 1 max_nodes a.rows (sym c.before.before.lies_in.ensures ∙ r.0), within_both 1 max_nodes a.columns (sym c.before.lies-in2.ensures ∙ r.1))
+    let a = c.args in
+    let r = and_both _ _ c.if-not-lies_in.false in
+    (within_both 1 max_nodes a.rows (sym c.lies_in.ensures ∙ r.0), within_both 1 max_nodes a.columns (sym c.lies_in-2.ensures ∙ r.1))
 
-mul_asked : tie.Need-overflow-mul-asked
+mul_asked : tie.Need-overflow_mul-rows
 mul_asked c = let e = sides c in omega (arith, mul-le-mul e.0.1 e.1.1)
 
 asked_requires : tie.Need-asked-requires
 asked_requires c κs = record { column = (sides c).1.0; fits = (sides c).1.1; asked = omega arith; allowed = omega arith }
 
-returns_2 : tie.Need-returns-2
+returns_2 : tie.Need-returns
 returns_2 c =
-    let b = c.before in
-    rw (ap₂ ◌&&◌ (sym b.before.before.lies_in.ensures) (sym b.before.lies-in2.ensures) ∙ not-false _ b.if1.false) c.asked.ensures
+    let b = c in
+    rw (ap₂ ◌&&◌ (sym b.lies_in.ensures) (sym b.lies_in-2.ensures) ∙ b.if-not-lies_in.false) c.asked.ensures
 
 pub grid_spec : {M : Type 1} → statement M
 grid_spec =

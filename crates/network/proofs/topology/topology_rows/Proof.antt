@@ -13,33 +13,33 @@ use Rattle.random.proofs.Tables.{length_tabulate, get_d_tabulate}
 use Rattle.network.proofs.topology.topology_rows.Statement.{statement}
 use Rattle.network.proofs.topology.topology_rows.Tie as tie
 
-abbrev invariant_loop : tie.invariant_loop
+abbrev invariant_loop : tie.invariant-loop-i
 invariant_loop t n wide₀ i₀ wide i = (i ≤ n) × (wide ≡ widened (topology_rows t n) i)
 
-abbrev decreases_loop : tie.decreases_loop
+abbrev decreases_loop : tie.decreases-loop-i
 decreases_loop t n wide₀ i₀ wide i = n - i
 
-loop_holds : tie.Need-loop-init invariant_loop decreases_loop
+loop_holds : tie.Need-loop-i-init invariant_loop decreases_loop
 unfolding widened
 loop_holds c = (zero-le, refl)
 
-loop_again : tie.Need-loop-preserved invariant_loop decreases_loop
+loop_again : tie.Need-loop-i-preserved invariant_loop decreases_loop
 unfolding topology_rows
 loop_again c =
-    let b = c.before.before in
-    let a = b.before.args in
-    let i = b.loop.i in
+    let b = c in
+    let a = b.args in
+    let i = b.loop-i.i in
     let rows = topology_rows a.t a.n in
     let h : i < a.n = omega arith in (
       omega arith,
-      ap₂ (λ (l : List ℕ) (v : ℕ). set l i v) b.loop.invariant.1 (c.row.ensures ∙ sym (get_d_tabulate a.n (topology_row a.t a.n) i 0 h))
+      ap₂ (λ (l : List ℕ) (v : ℕ). set l i v) b.loop-i.invariant.1 (c.row.ensures ∙ sym (get_d_tabulate a.n (topology_row a.t a.n) i 0 h))
           ∙ widened_more rows i (omega (arith, length_tabulate a.n (topology_row a.t a.n))) (omega arith),
     )
 
 returns : tie.Need-returns invariant_loop decreases_loop
 returns c =
-    let e : c.before.loop.i ≡ c.before.before.args.n = omega arith in
-    rw e at c.before.loop.invariant.1
+    let e : c.loop-i.i ≡ c.args.n = omega arith in
+    rw e at c.loop-i.invariant.1
 
 pub topology_rows_spec : {M : Type 1} → statement M
 topology_rows_spec =

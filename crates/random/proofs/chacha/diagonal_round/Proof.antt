@@ -15,11 +15,11 @@ turned_columns s h = ap diagonal_round (sym (by_places 16 0 s h))
 returns : tie.Need-returns
 returns c =
     let s = c.before.before.before.before.before.args.s in
-    let once : c.before.before.before.before.turn-rows.result ≡ turned_rows s = search rules in
-    c.turn-rows4.ensures
-    ∙ ap turned_rows c.before.turn-rows3.ensures
-    ∙ ap (λ (t : List ℕ). turned_rows (turned_rows t)) c.before.before.turn-rows2.ensures
-    ∙ ap (λ (t : List ℕ). turned_rows (turned_rows (turned_rows t))) (c.before.before.before.column-round.ensures ∙ ap column_round once)
+    let once : c.before.before.before.before.turn_rows.result ≡ turned_rows s = search rules in
+    c.turn_rows-4.ensures
+    ∙ ap turned_rows c.before.turn_rows-3.ensures
+    ∙ ap (λ (t : List ℕ). turned_rows (turned_rows t)) c.before.before.turn_rows-2.ensures
+    ∙ ap (λ (t : List ℕ). turned_rows (turned_rows (turned_rows t))) (c.before.before.before.column_round-t.ensures ∙ ap column_round once)
     ∙ turned_columns s (search rules)
 
 pub diagonal_round_spec : {M : Type 1} → statement M

@@ -3,7 +3,7 @@ use Rattle.random.proofs.chacha.quarter_of.Statement.{statement}
 use Rattle.random.proofs.chacha.quarter_of.Tie as tie
 
 returns : tie.Need-returns
-returns c = c.quarter-round.ensures
+returns c = c.quarter_round.ensures
 
 pub quarter_of_spec : {M : Type 1} → statement M
 quarter_of_spec =

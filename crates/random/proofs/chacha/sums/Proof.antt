@@ -5,21 +5,21 @@ use Rattle.random.proofs.Tables.{Filled, filled_none, filled_more, filled_all}
 use Rattle.random.proofs.chacha.sums.Statement.{statement}
 use Rattle.random.proofs.chacha.sums.Tie as tie
 
-abbrev invariant_loop : tie.invariant_loop
+abbrev invariant_loop : tie.invariant-loop-i
 invariant_loop a b t₀ i₀ t i = Filled (λ (k : ℕ). plus (get_or a k 0) (get_or b k 0)) 16 t i
 
-abbrev decreases_loop : tie.decreases_loop
+abbrev decreases_loop : tie.decreases-loop-i
 decreases_loop a b t₀ i₀ t i = 16 - i
 
-loop_holds : tie.Need-loop-init invariant_loop decreases_loop
+loop_holds : tie.Need-loop-i-init invariant_loop decreases_loop
 loop_holds c = filled_none _ 16 _ refl
 
-loop_again : tie.Need-loop-preserved invariant_loop decreases_loop
-loop_again c = filled_more c.wrapping-add-u32.result c.before.before.loop.invariant (omega arith) c.wrapping-add-u32.ensures
+loop_again : tie.Need-loop-i-preserved invariant_loop decreases_loop
+loop_again c = filled_more c.wrapping_add_u32.result c.before.before.loop-i.invariant (omega arith) c.wrapping_add_u32.ensures
 
 returns : tie.Need-returns invariant_loop decreases_loop
 unfolding sums
-returns c = filled_all c.before.loop.invariant (omega arith)
+returns c = filled_all c.before.loop-i.invariant (omega arith)
 
 pub sums_spec : {M : Type 1} → statement M
 sums_spec =

@@ -3,10 +3,10 @@ use Rattle.random.specs.ChaCha.{stream_block, counter_words}
 use Rattle.random.proofs.draws.stream_block.Statement.{statement}
 use Rattle.random.proofs.draws.stream_block.Tie as tie
 
-cast_low : tie.Need-overflow-cast-low
+cast_low : tie.Need-overflow_cast-low
 cast_low c = search rules
 
-cast_high : tie.Need-overflow-cast-high
+cast_high : tie.Need-overflow_cast-high
 cast_high c = search rules
 
 block_requires : tie.Need-block-requires

@@ -2,7 +2,7 @@ use Rattle.random.proofs.Fractions.{top_bits_cast, product_is_fraction}
 use Rattle.random.proofs.reception.fraction.Statement.{statement}
 use Rattle.random.proofs.reception.fraction.Tie as tie
 
-int_to_float_result : tie.Need-int-to-float-result
+int_to_float_result : tie.Need-int_to_float-result
 int_to_float_result c = top_bits_cast c.before.args.draw c.before.ranges.draw.fits
 
 returns : tie.Need-returns

@@ -5,28 +5,28 @@ use Rattle.random.specs.Reception.{fraction, lossless, heard_at}
 use Rattle.random.proofs.reception.receive.Statement.{statement}
 use Rattle.random.proofs.reception.receive.Tie as tie
 
-returns : tie.Need-returns
+returns : tie.Need-returns-then-rate
 unfolding heard_at
 returns c =
     let rate = c.before.args.rate in
-    let none_lost : lossless rate ≡ true = ap (eq rate) (sym zero_bits) ∙ c.if1.true in
+    let none_lost : lossless rate ≡ true = ap (eq rate) (sym zero_bits) ∙ c.if-rate.true in
     record {
       told = λ heard x. sym (ap (λ (f : ℕ → Bool). f c.before.args.k) x.seeded ∙ rw none_lost);
       next = λ heard x. record { seed = x.seed; seeded = x.seeded; ready = inl (rw none_lost tt) };
     }
 
-next_draw_requires : tie.Need-next-draw-requires
+next_draw_requires : tie.Need-next_draw-requires
 next_draw_requires c κs = search rules
 
 fraction_requires : tie.Need-fraction-requires
 fraction_requires c κs = search rules
 
-returns_2 : tie.Need-returns-2
+returns_2 : tie.Need-returns
 unfolding heard_at
 returns_2 c =
     let a = c.before.before.before.before.args in
-    let some-lost : lossless a.rate ≡ false = ap (eq a.rate) (sym zero_bits) ∙ c.before.before.before.if1.false in
-    let drawn = c.before.next-draw.ensures in
+    let some-lost : lossless a.rate ≡ false = ap (eq a.rate) (sym zero_bits) ∙ c.before.before.before.if-rate.false in
+    let drawn = c.before.next_draw.ensures in
     record {
       told = λ heard x.
           ⊎_elim (λ t. absurd (rw some-lost at t))

@@ -6,7 +6,7 @@ use Rattle.random.proofs.seed.next_state.Tie as tie
 
 returns : tie.Need-returns
 unfolding next_state
-returns c = c.wrapping-add-u64.ensures ∙ (rw c.before.wrapping-mul-u64.ensures (mod-add-mod _ _ _))
+returns c = c.wrapping_add_u64.ensures ∙ (rw c.before.wrapping_mul_u64.ensures (mod-add-mod _ _ _))
 
 pub next_state_spec : {M : Type 1} → statement M
 next_state_spec =

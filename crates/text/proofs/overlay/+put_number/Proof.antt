@@ -29,14 +29,14 @@ module _ (t : ℕ) where
       let start = c.before.before.before.before.before.before.before in
       omega (arith, spelled_short 19 (start.args.n / 10) (omega arith) (omega arith))
 
-  same_length_2 : lts.Need-same-length-2 (put_reads.Asked, put_reads.Learnt, below t, put-number.Post) (at t) put-number.Post
-  same_length_2 c = same_size (c.before.before.before.before.before.before.put-number.ensures then c.before.before.put2.ensures)
+  same_length_2 : lts.Need-shape_of-out (put_reads.Asked, put_reads.Learnt, below t, put-number.Post) (at t) put-number.Post
+  same_length_2 c = same_size (c.before.before.before.before.before.before.put_number-next.ensures then c.before.before.put-2.ensures)
 
-  returns_2 : lts.Need-returns-2 (put_reads.Asked, put_reads.Learnt, below t, put-number.Post) (at t) put-number.Post
+  returns_2 : lts.Need-returns (put_reads.Asked, put_reads.Learnt, below t, put-number.Post) (at t) put-number.Post
   returns_2 c =
       let first = c.before.before.before.before.before.before in
       let n = first.before.before.before.before in
-      digit_more n.args.n (omega arith) (omega arith) first.put-number.ensures c.before.before.put2.ensures
+      digit_more n.args.n (omega arith) (omega arith) first.put_number-next.ensures c.before.before.put-2.ensures
 
 pub +put_number_spec : {M : Type 1} → statement M
 +put_number_spec =
