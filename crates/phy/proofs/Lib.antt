@@ -21,6 +21,3 @@ pub mod Wave
 pub mod Lossless
 pub mod Due
 pub mod Fives
-pub mod Lent
-pub mod Through
-pub mod Element

@@ -4,7 +4,7 @@ use mathlib.Core.List.{List, [], ◌∷◌, flatten}
 use Rattle.std.specs.Int.Bits.{bit_and, bit_or}
 use Rattle.std.proofs.lemmas.List.Edits.{sets}
 use Rattle.config.specs.Limits.{max_nodes, max_repeats, snapshot_size, count_bound}
-use Rattle.network.specs.Graph.{has, set_of, count, all}
+use Rattle.network.specs.Graph.{has, set_of, all}
 use Rattle.random.specs.Reception.{Source}
 use Rattle.phy.specs.declared.slot.Settings.{Settings}
 use Rattle.phy.specs.declared.slot.Tried.{Tried}

@@ -35,7 +35,7 @@ pub fn length_limit(round_slots: RoundSlots, diameter: u64, repeats: u64) -> u64
 }
 
 // Where a run stands after a round, and the set of the nodes that took part.
-#[derive(Drop)]
+#[derive(Clone, Copy)]
 pub struct Round {
     pub flood: Radios,
     pub part: u64,

@@ -6,7 +6,7 @@ ghost use Rattle.phy.specs.Node as Spec;
 use super::packet::Packet;
 
 // What a radio does in a slot.
-#[derive(Drop)]
+#[derive(Clone, Copy)]
 pub enum NodeState {
     Listen,
     Flood,
@@ -14,13 +14,13 @@ pub enum NodeState {
 }
 
 // The packet that a node holds, or none.
-#[derive(Drop)]
+#[derive(Clone, Copy)]
 pub enum Payload {
     None,
     Of(Packet),
 }
 
-#[derive(Drop)]
+#[derive(Clone, Copy)]
 pub struct Node {
     pub state: NodeState,
     pub flood_remaining: u32,

@@ -3,35 +3,35 @@
 use network::units::{NodeId, Term};
 
 // The term up to which terms are accepted, or none: as a node or a packet has it, or as a quorum gives it.
-#[derive(Drop)]
+#[derive(Clone, Copy)]
 pub enum LastAccepted {
     None,
     At(Term),
 }
 
 // The term that the sender asks for, or none.
-#[derive(Drop)]
+#[derive(Clone, Copy)]
 pub enum Nack {
     None,
     Of(Term),
 }
 
 // The data of a proposal: nothing, or the data of a term, which is `tx` and the term in decimal.
-#[derive(Drop)]
+#[derive(Clone, Copy)]
 pub enum Data {
     Empty,
     Of(Term),
 }
 
 // A proposal that is sent once more because a node asked for it: its term and its data.
-#[derive(Drop)]
+#[derive(Clone, Copy)]
 pub enum Piggyback {
     None,
     Of(Term, Data),
 }
 
 // `flags_bitmap` is a set of nodes: bit i stands for node i.
-#[derive(Drop)]
+#[derive(Clone, Copy)]
 pub struct Packet {
     pub current_term: Term,
     pub last_accepted_term: LastAccepted,

@@ -18,7 +18,7 @@ pub const QUEUE_SIZE: usize = MAX_REPEATS as usize;
 
 // What a round is given: how many nodes there are, the repeats, the snapshot interval, the progress
 // that snapshots show, and the loss rate.
-#[derive(Drop)]
+#[derive(Clone, Copy)]
 pub struct Settings {
     pub nodes: usize,
     pub repeats: u32,
@@ -28,14 +28,14 @@ pub struct Settings {
 }
 
 // The sets of the nodes that listen and of those that flood.
-#[derive(Drop)]
+#[derive(Clone, Copy)]
 pub struct Awake {
     pub listening: u64,
     pub flooding: u64,
 }
 
 // The run's attempts and successes so far, and the set of nodes that heard in this slot.
-#[derive(Drop)]
+#[derive(Clone, Copy)]
 pub struct Tried {
     pub attempts: u64,
     pub successes: u64,
@@ -45,7 +45,7 @@ pub struct Tried {
 // Where the radios of a run stand: the sets of the nodes that listen and that flood, and the slots that all
 // nodes have spent in each state. Of the snapshots, those from the number `first_stored` on go into a lent
 // slice. The stream of the draws stands in a lent table.
-#[derive(Drop)]
+#[derive(Clone, Copy)]
 pub struct Radios {
     pub listening: u64,
     pub flooding: u64,

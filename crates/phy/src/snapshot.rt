@@ -7,7 +7,7 @@ use config::limits::SNAPSHOT_SIZE;
 use network::units::Slot;
 
 // What a snapshot shows beside its slot: the progress, and how many nodes listen, flood and sleep.
-#[derive(Drop)]
+#[derive(Clone, Copy)]
 pub struct Shown {
     pub progress: u64,
     pub listening: u64,
@@ -16,7 +16,7 @@ pub struct Shown {
 }
 
 // The slot of the next snapshot, and how many were taken.
-#[derive(Drop)]
+#[derive(Clone, Copy)]
 pub struct Schedule {
     pub next: Slot,
     pub count: u64,

@@ -9,25 +9,25 @@ use Rattle.network.proofs.Sets.{one_shl}
 use Rattle.phy.proofs.ci.begin_round.Statement.{statement}
 use Rattle.phy.proofs.ci.begin_round.Tie as tie
 
-shl_own : tie.Need-overflow-shl-own
+shl_own : tie.Need-overflow_shl-own
 shl_own c = search rules
 
-cast_last : tie.Need-overflow-cast-last
+cast_last : tie.Need-overflow_cast-last
 cast_last c = search rules
 
-sub_last : tie.Need-overflow-sub-last
+sub_last : tie.Need-overflow_sub-last
 sub_last c = search rules
 
-mul_queue : tie.Need-overflow-mul-queue
+mul_queue : tie.Need-offset_bounds-queue-last
 mul_queue c = search rules
 
-element_write_queue : tie.Need-element-write-queue
+element_write_queue : tie.Need-bounds-queue-last
 element_write_queue c = search rules
 
-full_set_requires : tie.Need-full-set-requires
+full_set_requires : tie.Need-full_set-requires
 full_set_requires c κs = search rules
 
-sub_y : tie.Need-overflow-sub-y
+sub_y : tie.Need-overflow_sub-y
 sub_y c =
     let start = c.before.before in
     let first = start.args.initiator.0 in

@@ -14,30 +14,30 @@ emptied [] i = refl
 emptied (x ∷ l) zero = refl
 emptied (x ∷ l) (suc i) = emptied l i
 
-abbrev invariant_loop : tie.invariant_loop
+abbrev invariant_loop : tie.invariant-loop-i
 invariant_loop queue₀ count i₀ queue i = (i ≤ count) × (length queue ≡ length queue₀) × ((k : ℕ) → k < i → get_or queue k 0 ≡ 0)
 
-abbrev decreases_loop : tie.decreases_loop
+abbrev decreases_loop : tie.decreases-loop-i
 decreases_loop queue₀ count i₀ queue i = count - i
 
-loop_holds : tie.Need-loop-init invariant_loop decreases_loop
+loop_holds : tie.Need-loop-i-init invariant_loop decreases_loop
 loop_holds c = (omega arith, refl, λ k h. absurd (omega (arith, h)))
 
-mul_queue : tie.Need-overflow-mul-queue invariant_loop decreases_loop
+mul_queue : tie.Need-offset_bounds-queue-i invariant_loop decreases_loop
 mul_queue c = omega arith
 
-element_write_queue : tie.Need-element-write-queue invariant_loop decreases_loop
+element_write_queue : tie.Need-bounds-queue-i invariant_loop decreases_loop
 element_write_queue c = omega (arith, c.before.before.requires)
 
-add_i : tie.Need-overflow-add-i invariant_loop decreases_loop
+add_i : tie.Need-overflow_step-i invariant_loop decreases_loop
 add_i c = omega arith
 
-loop_less : tie.Need-loop-smaller invariant_loop decreases_loop
+loop_less : tie.Need-loop-i-smaller invariant_loop decreases_loop
 loop_less c = omega arith
 
-loop_again : tie.Need-loop-preserved invariant_loop decreases_loop
+loop_again : tie.Need-loop-i-preserved invariant_loop decreases_loop
 loop_again c =
-    let l = c.before.loop in (
+    let l = c.before.loop-i in (
       omega arith,
       length-set l.queue l.i 0 ∙ l.invariant.1,
       below_more _ l.i (λ k b. get_or-set_other l.queue l.i k 0 0 (λ p. omega (arith, p, b)) ∙ l.invariant.2 k b)
@@ -45,7 +45,7 @@ loop_again c =
     )
 
 returns : tie.Need-returns invariant_loop decreases_loop
-returns c = let l = c.before.loop in record { size = l.invariant.1; empty = λ k h. l.invariant.2 k (omega (arith, h)) }
+returns c = let l = c.before.loop-i in record { size = l.invariant.1; empty = λ k h. l.invariant.2 k (omega (arith, h)) }
 
 pub empty_queue_spec : {M : Type 1} → statement M
 empty_queue_spec = tie.close (tie.spec invariant_loop decreases_loop loop_holds mul_queue element_write_queue add_i loop_less loop_again returns)

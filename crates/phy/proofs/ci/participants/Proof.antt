@@ -9,14 +9,14 @@ use Rattle.phy.proofs.RoundEnds.{part_set}
 use Rattle.phy.proofs.ci.participants.Statement.{statement}
 use Rattle.phy.proofs.ci.participants.Tie as tie
 
-sub_result : tie.Need-overflow-sub-result
+sub_result : tie.Need-overflow_sub-result
 sub_result c = and_le_l _ _
 
 returns : tie.Need-returns
 returns c =
     let a = c.before.args in
     let own = one_shl set_bits a.initiator.0 (omega arith) in
-    ap₂ (λ (all bit : ℕ). bit_or (all - bit_and all a.awake) bit) c.full_set.ensures own ∙ part_set a.n a.initiator.0 a.awake c.before.requires.1
+    ap₂ (λ (all bit : ℕ). bit_or (all - bit_and all a.awake) bit) c.full_set-all.ensures own ∙ part_set a.n a.initiator.0 a.awake c.before.requires.1
 
 pub participants_spec : {M : Type 1} → statement M
 participants_spec =

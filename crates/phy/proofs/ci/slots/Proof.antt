@@ -76,60 +76,60 @@ module _ {g : Settings} {rows : List ℕ} {longest : ℕ} {x₀ : Radios} {t₀ 
             subst (Stands g.nodes r b₀ t'.snapshots) (sym (slots_last setup (more - 1) old.0 last) ∙ ap (λ (k : ℕ). slots setup k old.0) (sym one) ∙ old.2) new;
       }
 
-abbrev invariant_loop : tie.invariant_loop
+abbrev invariant_loop : tie.invariant-loop-more
 invariant_loop settings rows longest queue₀ stream₀ snapshots₀ x₀ more₀ place₀ queue stream snapshots x more place =
     Onward settings rows longest x₀ (tables queue₀ stream₀ snapshots₀) x (tables queue stream snapshots) more place
 
-abbrev decreases_loop : tie.decreases_loop
+abbrev decreases_loop : tie.decreases-loop-more
 decreases_loop settings rows longest queue₀ stream₀ snapshots₀ x₀ more₀ place₀ queue stream snapshots x more place = more
 
-loop_holds : tie.Need-loop-init invariant_loop decreases_loop
+loop_holds : tie.Need-loop-more-init invariant_loop decreases_loop
 loop_holds c =
     let pre = c.before.requires in
     record { sound = pre.0; slots_left = omega arith; first = refl; size = refl; met = pre.2; source = λ heard s. s; here = λ heard source b₀ s here. (s, here, refl) }
 
-slot_requires : tie.Need-slot-requires invariant_loop decreases_loop
+slot_requires : tie.Need-slot-x-requires invariant_loop decreases_loop
 slot_requires c κs =
-    let l = c.before.before.before.before.loop in
+    let l = c.before.before.before.before.loop-more in
     let pre = c.before.before.before.before.before.before.requires in
-    (l.invariant.sound, omega (arith, l.invariant.slots_left, c.before.before.before.loop-test.true, pre.1), l.invariant.met)
+    (l.invariant.sound, omega (arith, l.invariant.slots_left, c.before.before.before.loop-more-test.true, pre.1), l.invariant.met)
 
-sub_more : tie.Need-overflow-sub-more invariant_loop decreases_loop
+sub_more : tie.Need-overflow_sub-more invariant_loop decreases_loop
 sub_more c = omega arith
 
 -- after a slot: the loop before it, and its slot
-abbrev passed : tie.After-slice-known2 invariant_loop decreases_loop → tie.In-loop invariant_loop decreases_loop
+abbrev passed : tie.After-slice_known-in-loop-more-1 invariant_loop decreases_loop → tie.In-loop-more invariant_loop decreases_loop
 passed c = c.before.before.before.before.before.before
 
-same_length : tie.Need-same-length invariant_loop decreases_loop
-same_length c = let after = c.before.before in after.before.before.slot.auto.1.1.1.1.1.1.0 ∙ (passed after).before.loop.invariant.size
+same_length : tie.Need-shape_of-snapshots-then-x-eq0 invariant_loop decreases_loop
+same_length c = let after = c.before.before in after.before.before.slot-x.auto.snapshots ∙ (passed after).before.loop-more.invariant.size
 
-returns : tie.Need-returns invariant_loop decreases_loop
+returns : tie.Need-returns-then-x-eq0 invariant_loop decreases_loop
 returns c =
     let after = c.before.before in
-    ends (passed after).before.loop.invariant (passed after).loop-test.true after.before.before.slot.ensures c.if1.true
+    ends (passed after).before.loop-more.invariant (passed after).loop-more-test.true after.before.before.slot-x.ensures c.if-x-eq0.true
 
-next_place_requires : tie.Need-next-place-requires invariant_loop decreases_loop
-next_place_requires c κs = (passed c.before.before).before.loop.inv.met.here.queued.place
+next_place_requires : tie.Need-next_place-place-requires invariant_loop decreases_loop
+next_place_requires c κs = (passed c.before.before).before.loop-more.invariant.met.here.queued.place
 
-loop_less : tie.Need-loop-smaller invariant_loop decreases_loop
+loop_less : tie.Need-loop-more-smaller invariant_loop decreases_loop
 loop_less c = omega arith
 
-loop_again : tie.Need-loop-preserved invariant_loop decreases_loop
+loop_again : tie.Need-loop-more-preserved invariant_loop decreases_loop
 loop_again c =
     let after = c.before.before.before in
-    let next = after.before.before.slot in
-    onward (passed after).before.loop.invariant (passed after).loop-test.true next.ensures c.before.if1.false next.auto.1.1.1.1.1.1.0 c.next_place.ensures
+    let next = after.before.before.slot-x in
+    onward (passed after).before.loop-more.invariant (passed after).loop-more-test.true next.ensures c.before.if-x-eq0.false next.auto.snapshots c.next_place-place.ensures
 
-same_length_2 : tie.Need-same-length-2 invariant_loop decreases_loop
-same_length_2 c = c.before.loop.invariant.size
+same_length_2 : tie.Need-shape_of-snapshots invariant_loop decreases_loop
+same_length_2 c = c.before.loop-more.invariant.size
 
-returns_2 : tie.Need-returns-2 invariant_loop decreases_loop
+returns_2 : tie.Need-returns invariant_loop decreases_loop
 unfolding slots
 returns_2 c =
-    let l = c.before.loop in
+    let l = c.before.loop-more in
     let a = c.before.before.before.args in
-    let none : l.more ≡ 0 = omega (arith, c.loop-test.false) in
+    let none : l.more ≡ 0 = omega (arith, c.loop-more-test.false) in
     record {
       sound = l.invariant.sound;
       slots = omega (arith, l.invariant.slots_left);

@@ -3,22 +3,22 @@ use lib.Bits.{and_le_l}
 use Rattle.phy.proofs.slot.advance.Statement.{statement}
 use Rattle.phy.proofs.slot.advance.Tie as tie
 
-mul_done : tie.Need-overflow-mul-done
+mul_done : tie.Need-offset_bounds-queue-place
 mul_done c = search rules
 
-element_copy_out_done : tie.Need-element-copy-out-done
+element_copy_out_done : tie.Need-bounds-queue-place
 element_copy_out_done c = search rules
 
-mul_queue : tie.Need-overflow-mul-queue
+mul_queue : tie.Need-offset_bounds-queue-place-2
 mul_queue c = search rules
 
-element_write_queue : tie.Need-element-write-queue
+element_write_queue : tie.Need-bounds-queue-place-2
 element_write_queue c = search rules
 
-sub_t10 : tie.Need-overflow-sub-t10
+sub_t10 : tie.Need-overflow_sub-result
 sub_t10 c = and_le_l _ _
 
-sub_t13 : tie.Need-overflow-sub-t13
+sub_t13 : tie.Need-overflow_sub-result-2
 sub_t13 c = and_le_l _ _
 
 returns : tie.Need-returns
