@@ -17,7 +17,7 @@ pub const ALL_STATES: usize = NODE_SIZE * MAX_NODES;
 
 // What the rounds carry besides the flood, the table of states and the history: how many proposals
 // were made, what is recorded, the piggyback for the next packet, and two counts.
-#[derive(Drop)]
+#[derive(Clone, Copy)]
 pub struct Carry {
     pub counter: u64,
     pub recorded: Recorded,

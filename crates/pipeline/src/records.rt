@@ -17,7 +17,7 @@ pub const RECORDS_PLACE: usize = MAX_TERMS;
 pub const HISTORY_SIZE: usize = RECORDS_PLACE + RECORDS_SIZE;
 
 // How many records there are, and the set of the terms that are recorded.
-#[derive(Drop)]
+#[derive(Clone, Copy)]
 pub struct Recorded {
     pub count: u64,
     pub terms: u64,
@@ -25,7 +25,7 @@ pub struct Recorded {
 
 // A record: its term, the slot that its proposal was made in, and the slot at which it was first newly
 // committed.
-#[derive(Drop)]
+#[derive(Clone, Copy)]
 pub struct ProposalRecord {
     pub id: Term,
     pub start: Slot,

@@ -13,7 +13,7 @@ use protocol::state::place_of;
 use protocol::turns::{initiator_turn, participant_turn};
 
 // What the rounds carry after `prepare_round`, and the packet to be flooded.
-#[derive(Drop)]
+#[derive(Clone, Copy)]
 pub struct PreparedRound {
     pub carry: Carry,
     pub packet: Packet,

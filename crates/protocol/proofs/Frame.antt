@@ -97,7 +97,7 @@ kept_from n p l a g k =
       fits = omega (arith, n, k.fits);
       pending_below = λ t h. ap (λ (x : ℕ). has x t) p ∙ k.pending_below t h;
       logged_below = λ t h. ap (λ (x : ℕ). has x t) l ∙ k.logged_below t h;
-      last_below_lem = omega (arith, a, k.last_below);
+      last_below = omega (arith, a, k.last_below);
       apart = λ t h. ap (λ (x : ℕ). has x t) p ∙ k.apart t (ap (λ (x : ℕ). has x t) (sym l) ∙ h);
       logged_is = λ t. ap (logged t) g ∙ k.logged_is t ∙ ap (λ (x : ℕ). has x t) (sym l);
       distinct = subst Distinct (sym g) k.distinct;
@@ -177,7 +177,7 @@ module _ {b : List ℕ} {at : ℕ} (no : NoTerm b at) where
         fits = h;
         pending_below = λ t g. rw no.pending (has_zero t);
         logged_below = λ t g. rw no.logged (has_zero t);
-        last_below_lem = omega (arith, no.last);
+        last_below = omega (arith, no.last);
         apart = λ t g. rw no.pending (has_zero t);
         logged_is = λ t. rw (none_logged, no.logged, has_zero t);
         distinct = rw none_logged tt;

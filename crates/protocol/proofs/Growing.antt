@@ -8,7 +8,7 @@ use native.Mathlib.Nat.{le_trans, le_refl}
 use native.Mathlib.Omega.{arith}
 use Rattle.phy.specs.declared.packet.LastAccepted.{LastAccepted}
 use Rattle.protocol.specs.Paxos.{LogEntry, State, logged, updated, log_entry, raise, commit_term}
-use Rattle.protocol.specs.Growth.{Extends, Rises}
+use Rattle.protocol.specs.Growth.{Extends, Continues, Rises}
 use Rattle.protocol.proofs.Logs.{logged_append}
 
 -- ---- last accepted rises
@@ -29,11 +29,17 @@ rises_raise t (LastAccepted.At u) = omega arith
 
 -- ---- a log only grows
 
-pub extends_refl : {A : Type 0} (l : List A) → Extends l l
-extends_refl l = ([], sym (append-nil l))
+pub continues_refl : {A : Type 0} (l : List A) → Continues l l
+continues_refl l = ([], sym (append-nil l))
 
-pub extends_trans : {A : Type 0} (a b c : List A) → Extends a b → Extends b c → Extends a c
-extends_trans {A} a b c p q = (p.0 ++ q.0, q.1 ∙ ap (λ (l : List A). l ++ q.0) p.1 ∙ append_assoc a p.0 q.0)
+pub continues_trans : {A : Type 0} (a b c : List A) → Continues a b → Continues b c → Continues a c
+continues_trans {A} a b c p q = (p.0 ++ q.0, q.1 ∙ ap (λ (l : List A). l ++ q.0) p.1 ∙ append_assoc a p.0 q.0)
+
+pub extends_refl : (l : List LogEntry) → Extends l l
+extends_refl l = continues_refl l
+
+pub extends_trans : (a b c : List LogEntry) → Extends a b → Extends b c → Extends a c
+extends_trans a b c p q = continues_trans a b c p q
 
 pub extends_logged : (t : ℕ) (l m : List LogEntry) → Extends l m → logged t l ≡ true → logged t m ≡ true
 extends_logged t l m p e = ap (logged t) p.1 ∙ logged_append t l p.0 ∙ ap (λ (b : Bool). b || logged t p.0) e

@@ -42,7 +42,7 @@ kept_mono h r k =
       fits = k.fits;
       pending_below = λ t g. k.pending_below t (le_trans h g);
       logged_below = λ t g. k.logged_below t (le_trans h g);
-      last_below_lem = le_trans k.last_below h;
+      last_below = le_trans k.last_below h;
       apart = k.apart;
       logged_is = k.logged_is;
       distinct = k.distinct;
@@ -151,7 +151,7 @@ module _ (b : List ℕ) (at m : ℕ) where
         fits = omega (arith, k.fits, length-set b (at + last_place) m);
         pending_below = λ t g. rw (risen_other (at + pending_place) (omega arith)) (k.pending_below t g);
         logged_below = λ t g. rw (risen_other (at + logged_place) (omega arith)) (k.logged_below t g);
-        last_below_lem = omega (arith, risen_last k);
+        last_below = omega (arith, risen_last k);
         apart = λ t g.
             rw (risen_other (at + pending_place) (omega arith))
             (k.apart t (rw (risen_other (at + logged_place) (omega arith)) at g));
@@ -280,7 +280,7 @@ module _
         fits = omega (arith, k.fits, length_three b (at + log_place + e) (at + pending_place) (at + logged_place) t p l);
         pending_below = λ j g. has_rest j ∙ rw (ne_eqb j t (λ q. omega arith)) (k.pending_below j g);
         logged_below = λ j g. has_more j ∙ rw (ne_eqb j t (λ q. omega arith), k.logged_below j g);
-        last_below_lem = omega (arith, entered_last_at, k.last_below);
+        last_below = omega (arith, entered_last_at, k.last_below);
         apart = λ j g.
             has_rest j ∙
             same_or (λ (x : Bool). (has (logged_set b at) j || x) ≡ true → cond x false (has (pending_set b at) j) ≡ false)
@@ -386,7 +386,7 @@ module _
         fits = omega (arith, k.fits, length_three b (at + t) (at + data_place + t) (at + pending_place) v d p);
         pending_below = λ j g. has_held j ∙ rw (ne_eqb j t (λ q. omega arith), k.pending_below j g);
         logged_below = λ j g. ap (λ (x : ℕ). has x j) held_logged_set ∙ k.logged_below j g;
-        last_below_lem = omega (arith, held_last_at, k.last_below);
+        last_below = omega (arith, held_last_at, k.last_below);
         apart = λ j g.
             let y : has (logged_set b at) j ≡ true = ap (λ (x : ℕ). has x j) (sym held_logged_set) ∙ g in
             let ne : j ≡ t → ⊥ = λ q. true≢false (sym y ∙ ap (has (logged_set b at)) q ∙ absent) in

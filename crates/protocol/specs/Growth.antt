@@ -10,8 +10,12 @@ use Rattle.protocol.specs.Paxos.{LogEntry, Pending, State, logged}
 use Rattle.protocol.specs.View.{Distinct}
 
 -- m begins with l: nothing of l is removed or reordered
-abbrev pub Extends : {A : Type 0} → List A → List A → Type 0
-Extends {A} l m = (d : List A) × (m ≡ l ++ d)
+abbrev pub Extends : List LogEntry → List LogEntry → Type 0
+Extends l m = (d : List LogEntry) × (m ≡ l ++ d)
+
+-- the same of lists of anything: m begins with l
+abbrev pub Continues : {A : Type 0} → List A → List A → Type 0
+Continues {A} l m = (d : List A) × (m ≡ l ++ d)
 
 -- last accepted doesn't fall
 abbrev pub Rises : LastAccepted → LastAccepted → Type 0

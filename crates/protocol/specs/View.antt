@@ -79,7 +79,7 @@ pub record Kept (c : ℕ) (b : List ℕ) (at : ℕ) : Type 0 where
   -- terms are below the counter
   pub pending_below : (t : ℕ) → c ≤ t → has (pending_set b at) t ≡ false
   pub logged_below : (t : ℕ) → c ≤ t → has (logged_set b at) t ≡ false
-  pub last_below_lem : last_at b at ≤ c
+  pub last_below : last_at b at ≤ c
   -- no term is both logged and pending
   pub apart : (t : ℕ) → has (logged_set b at) t ≡ true → has (pending_set b at) t ≡ false
   -- the log holds the terms of its set, each once

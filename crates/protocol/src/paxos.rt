@@ -19,7 +19,7 @@ use network::units::{NodeId, Term};
 use phy::packet::{Data, LastAccepted, Nack, Piggyback};
 
 // A term that is missing, or none.
-#[derive(Drop)]
+#[derive(Clone, Copy)]
 pub enum Gap {
     None,
     At(Term),

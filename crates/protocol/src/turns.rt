@@ -16,7 +16,7 @@ use network::units::{NodeId, Term};
 use phy::packet::{Data, Nack, Packet, Piggyback};
 
 // What the initiator's turn gives beside its state: the packet, and the set of terms newly committed.
-#[derive(Drop)]
+#[derive(Clone, Copy)]
 pub struct Announced {
     pub packet: Packet,
     pub newly: u64,
@@ -24,7 +24,7 @@ pub struct Announced {
 
 // What a participant's turn gives beside its state: the set of terms newly committed, and the NACKed
 // term with its data if the node holds it.
-#[derive(Drop)]
+#[derive(Clone, Copy)]
 pub struct Participation {
     pub newly: u64,
     pub recovery: Piggyback,

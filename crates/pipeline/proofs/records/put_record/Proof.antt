@@ -5,13 +5,13 @@ use lib.ListN.{length-set}
 use Rattle.pipeline.proofs.records.put_record.Statement.{statement}
 use Rattle.pipeline.proofs.records.put_record.Tie as tie
 
-slice_write_out : tie.Need-slice-write-out
+slice_write_out : tie.Need-bounds-out-at
 slice_write_out c = search rules
 
-slice_write_out_2 : tie.Need-slice-write-out-2
+slice_write_out_2 : tie.Need-bounds-out-at-2
 slice_write_out_2 c = simp length-set (omega arith)
 
-slice_write_out_3 : tie.Need-slice-write-out-3
+slice_write_out_3 : tie.Need-bounds-out-at-3
 slice_write_out_3 c = simp length-set (omega arith)
 
 returns : tie.Need-returns

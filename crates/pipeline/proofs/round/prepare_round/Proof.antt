@@ -27,47 +27,47 @@ room : (s : tie.Start) →
     a.x.counter + cond (ltb a.x.counter a.proposals) 1 0 ≤ max_terms
 room s = proposing s.args.x.counter s.args.proposals s.requires.sharing.few s.requires.most
 
-place_of_requires : tie.Need-place-of-requires
+place_of_requires : tie.Need-place_of-at-requires
 place_of_requires c κs = search rules
 
-initiator_turn_requires : tie.Need-initiator-turn-requires
+initiator_turn_requires : tie.Need-initiator_turn-turn-requires
 initiator_turn_requires c κs =
     let start = c.before.before.before in
     let a = start.args in
     let pre = start.requires in
     record {
-      kept = subst⁻¹ (Kept a.x.counter a.states.now) c.before.place_of.ensures (pre.sharing.kept.each a.initiator.0 pre.initiator);
+      kept = subst⁻¹ (Kept a.x.counter a.states.now) c.before.place_of-at.ensures (pre.sharing.kept.each a.initiator.0 pre.initiator);
       few = omega (arith, counter_after_is (ltb a.x.counter a.proposals) a.x.counter, room start);
       node = omega (arith, pre.initiator, pre.nodes);
       nodes = pre.two;
     }
 
-keep_start_requires : tie.Need-keep-start-requires
+keep_start_requires : tie.Need-keep_start-requires
 keep_start_requires c κs =
     let start = c.before.before.before.before.before.before.before.before in
     (start.requires.sharing.started, room start)
 
-record_all_requires : tie.Need-record-all-requires
+record_all_requires : tie.Need-record_all-recorded-requires
 record_all_requires c κs =
     let start = c.before.before.before.before.before.before.before.before.before.before.before in
-    starts_recording start.args.x.recorded c.before.before.keep-start.ensures start.requires.sharing.recording
+    starts_recording start.args.x.recorded c.before.before.keep_start.ensures start.requires.sharing.recording
 
-one_if_requires : tie.Need-one-if-requires
+one_if_requires : tie.Need-one_if-requires
 one_if_requires c κs = search rules
 
-add_t23 : tie.Need-overflow-add-t23
-add_t23 c = omega (arith, room c.before.before.before.before.before.before.before.before.before.before.before.before.before, c.one-if.ensures)
+add_t23 : tie.Need-overflow_add-result
+add_t23 c = omega (arith, room c.before.before.before.before.before.before.before.before.before.before.before.before.before, c.one_if.ensures)
 
-one_nack_requires : tie.Need-one-nack-requires
+one_nack_requires : tie.Need-one_nack-requires
 one_nack_requires c κs = search rules
 
-add_t25 : tie.Need-overflow-add-t25
+add_t25 : tie.Need-overflow_add-result-2
 add_t25 c =
     let turn-place = c.before.before.before.before.before.before.before.before.before.before.before in
     let start = turn-place.before.before.before.before in
-    omega (arith, start.requires.nacks, c.before.one-nack.ensures, nack_at_most turn-place.initiator-turn.result.packet.nack_term)
+    omega (arith, start.requires.nacks, c.before.one_nack.ensures, nack_at_most turn-place.initiator_turn-turn.result.packet.nack_term)
 
-same_length : tie.Need-same-length
+same_length : tie.Need-shape_of-states
 same_length c = search rules
 
 returns : tie.Need-returns
@@ -86,12 +86,12 @@ returns c =
     let most = room start in
     let s = start.requires.sharing in
     let here = start.requires.initiator in
-    let turn = turn-place.initiator-turn in
-    let took = subst (λ (at : ℕ). Initiates at i n x.counter b x.piggyback held turn.result turn.new.0) turn-place.before.before.place_of.ensures turn.ensures in
-    let begun = begun-place.keep-start.ensures in
-    let recorded = recorded-place.record-all in
-    let one = c.before.before.one-if in
-    let nacked = c.before.one-nack.ensures in
+    let turn = turn-place.initiator_turn-turn in
+    let took = subst (λ (at : ℕ). Initiates at i n x.counter b x.piggyback held turn.result turn.new.states) turn-place.before.before.place_of-at.ensures turn.ensures in
+    let begun = begun-place.keep_start.ensures in
+    let recorded = recorded-place.record_all-recorded in
+    let one = c.before.before.one_if in
+    let nacked = c.before.one_nack.ensures in
     let count : x.counter + one.result ≡ x.counter + cond b 1 0 = ap (λ (k : ℕ). x.counter + k) one.ensures in
     let spec : Initiated = initiator_turn i n x.counter b x.piggyback (state_of (states_of n held) i) in
     let same : spec ≡ initiator_turn i n x.counter b x.piggyback (view held (first_of i)) = ap (initiator_turn i n x.counter b x.piggyback) (state_at n held i here) in

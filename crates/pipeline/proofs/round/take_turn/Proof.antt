@@ -20,24 +20,24 @@ use Rattle.pipeline.proofs.Sharing.{state_at, states_set, start_at, starts_same,
 use Rattle.pipeline.proofs.round.take_turn.Statement.{statement}
 use Rattle.pipeline.proofs.round.take_turn.Tie as tie
 
-place_of_requires : tie.Need-place-of-requires
+place_of_requires : tie.Need-place_of-at-requires
 place_of_requires c κs = search rules
 
-participant_turn_requires : tie.Need-participant-turn-requires
+participant_turn_requires : tie.Need-participant_turn-turn-requires
 participant_turn_requires c κs =
     let start = c.before.before.before in
     let pre = start.requires in
     let j = start.args.node.0 in
     let kept = kept_mono pre.sharing.few (omega arith) (pre.sharing.kept.each j pre.node) in
-    (subst⁻¹ (Kept max_terms start.args.states.now) c.before.place_of.ensures kept, terms_mono pre.sharing.few pre.below, omega (arith, pre.node, pre.nodes))
+    (subst⁻¹ (Kept max_terms start.args.states.now) c.before.place_of-at.ensures kept, terms_mono pre.sharing.few pre.below, omega (arith, pre.node, pre.nodes))
 
-record_all_requires : tie.Need-record-all-requires
+record_all_requires : tie.Need-record_all-recorded-requires
 record_all_requires c κs = search rules
 
 recovered_requires : tie.Need-recovered-requires
 recovered_requires c κs = search rules
 
-same_length : tie.Need-same-length
+same_length : tie.Need-shape_of-states
 same_length c = search rules
 
 returns : tie.Need-returns
@@ -50,11 +50,11 @@ returns c =
     let p = a.packet in
     let j = a.node.0 in
     let held = a.states.now in
-    let turn = turn-place.participant-turn in
-    let took = subst (λ (at : ℕ). Takes at j p held turn.result turn.new.0) turn-place.before.before.place_of.ensures turn.ensures in
-    let recorded = c.before.record-all in
+    let turn = turn-place.participant_turn-turn in
+    let took = subst (λ (at : ℕ). Takes at j p held turn.result turn.new.states) turn-place.before.before.place_of-at.ensures turn.ensures in
+    let recorded = c.before.record_all-recorded in
     let below = start.requires.below in
-    subst⁻¹ (λ (r : Carry). TakesTurn p a.slot a.node x held a.history.now r turn.new.0 recorded.new.0) c.recovered.ensures
+    subst⁻¹ (λ (r : Carry). TakesTurn p a.slot a.node x held a.history.now r turn.new.states recorded.new.history) c.recovered.ensures
     (record {
       counter = refl;
       nacks = refl;

@@ -8,10 +8,10 @@ use Rattle.protocol.proofs.Kept.{held_in}
 use Rattle.protocol.proofs.paxos.is_held.Statement.{statement}
 use Rattle.protocol.proofs.paxos.is_held.Tie as tie
 
-held_set_requires : tie.Need-held-set-requires
+held_set_requires : tie.Need-held_set-requires
 held_set_requires c κs = search rules
 
-shr_result : tie.Need-overflow-shr-result
+shr_result : tie.Need-overflow_shr-result
 shr_result c = search rules
 
 returns : tie.Need-returns
@@ -19,7 +19,7 @@ unfolding has
 returns c =
     let s = c.before.before in
     let t = s.args.term.0 in
-    ap (λ (x : ℕ). has x t) c.held-set.ensures ∙ sym (held_in s.requires.0 t)
+    ap (λ (x : ℕ). has x t) c.held_set.ensures ∙ sym (held_in s.requires.0 t)
 
 pub is_held_spec : {M : Type 1} → statement M
 is_held_spec = tie.close (tie.spec held_set_requires shr_result returns)

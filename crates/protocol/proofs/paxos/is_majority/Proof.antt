@@ -7,10 +7,10 @@ use Rattle.protocol.proofs.Sets.{size_ones}
 use Rattle.protocol.proofs.paxos.is_majority.Statement.{statement}
 use Rattle.protocol.proofs.paxos.is_majority.Tie as tie
 
-cast_k : tie.Need-overflow-cast-k
+cast_k : tie.Need-overflow_cast-k
 cast_k c = omega (arith, ones-le 64 c.args.votes c.ranges.votes.fits)
 
-add_result : tie.Need-overflow-add-result
+add_result : tie.Need-overflow_add-result
 add_result c = search rules
 
 returns : tie.Need-returns

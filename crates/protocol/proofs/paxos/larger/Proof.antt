@@ -4,10 +4,10 @@ use native.Mathlib.Omega.{arith}
 use Rattle.protocol.proofs.paxos.larger.Statement.{statement}
 use Rattle.protocol.proofs.paxos.larger.Tie as tie
 
-returns : tie.Need-returns
+returns : tie.Need-returns-then-a-b
 returns c = omega arith
 
-returns_2 : tie.Need-returns-2
+returns_2 : tie.Need-returns-else-a-b
 returns_2 c = omega arith
 
 pub larger_spec : {M : Type 1} → statement M

@@ -33,37 +33,37 @@ no_other x v w =
     eq-eqb (bit_or x (bit_xor v w)) 0
     (ap₂ bit_or (eqb-true x 0 both.0) (ap (λ (y : ℕ). bit_xor y w) (eqb-true v w both.1) ∙ xor_self w) ∙ or_zero_l 0))
 
-abbrev invariant_loop : tie.invariant_loop
+abbrev invariant_loop : tie.invariant-loop-t
 invariant_loop states at own first end other₀ t₀ other t = (first ≤ t) × (t ≤ end) × (eqb other 0 ≡ all t (alone states at own first))
 
-abbrev decreases_loop : tie.decreases_loop
+abbrev decreases_loop : tie.decreases-loop-t
 decreases_loop states at own first end other₀ t₀ other t = end - t
 
-loop_holds : tie.Need-loop-init invariant_loop decreases_loop
+loop_holds : tie.Need-loop-t-init invariant_loop decreases_loop
 loop_holds c =
     let a = c.args in
     (omega arith, c.requires.1, sym (all_intro a.first _ (λ t h. ap (λ (x : Bool). x || eqb (votes_at a.states.now a.at t) a.own) (lt-ltb t a.first h))))
 
-add_other : tie.Need-overflow-add-other invariant_loop decreases_loop
+add_other : tie.Need-overflow_add-other invariant_loop decreases_loop
 add_other c = omega arith
 
-mul_other : tie.Need-overflow-mul-other invariant_loop decreases_loop
+mul_other : tie.Need-offset_bounds-states-at invariant_loop decreases_loop
 mul_other c = omega arith
 
-shared_slice_read_other : tie.Need-shared-slice-read-other invariant_loop decreases_loop
+shared_slice_read_other : tie.Need-bounds-states-at invariant_loop decreases_loop
 shared_slice_read_other c = omega arith
 
-add_t : tie.Need-overflow-add-t invariant_loop decreases_loop
+add_t : tie.Need-overflow_step-t invariant_loop decreases_loop
 add_t c = omega arith
 
-loop_less : tie.Need-loop-smaller invariant_loop decreases_loop
+loop_less : tie.Need-loop-t-smaller invariant_loop decreases_loop
 loop_less c = omega arith
 
-loop_again : tie.Need-loop-preserved invariant_loop decreases_loop
+loop_again : tie.Need-loop-t-preserved invariant_loop decreases_loop
 unfolding all
 loop_again c =
     let a = c.before.before.before.args in
-    let l = c.before.before.loop in
+    let l = c.before.before.loop-t in
     let v = votes_at a.states.now a.at l.t in
     let f = alone a.states.now a.at a.own a.first in (
       omega arith,
@@ -76,7 +76,7 @@ loop_again c =
 returns : tie.Need-returns invariant_loop decreases_loop
 returns c =
     let a = c.before.before.args in
-    let l = c.before.loop in
+    let l = c.before.loop-t in
     let done : l.t ≡ a.end = omega arith in
     ap not (l.invariant.2 ∙ ap (λ (k : ℕ). all k (alone a.states.now a.at a.own a.first)) done)
 

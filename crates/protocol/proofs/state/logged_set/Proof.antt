@@ -5,13 +5,13 @@ use mathlib.Core.Path.{refl}
 use Rattle.protocol.proofs.state.logged_set.Statement.{statement}
 use Rattle.protocol.proofs.state.logged_set.Tie as tie
 
-add_result : tie.Need-overflow-add-result
+add_result : tie.Need-overflow_add-result
 add_result c = search rules
 
-mul_result : tie.Need-overflow-mul-result
+mul_result : tie.Need-offset_bounds-states-at
 mul_result c = search rules
 
-shared_slice_read_result : tie.Need-shared-slice-read-result
+shared_slice_read_result : tie.Need-bounds-states-at
 shared_slice_read_result c = search rules
 
 returns : tie.Need-returns

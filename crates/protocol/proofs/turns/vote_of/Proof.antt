@@ -5,7 +5,7 @@ use Rattle.protocol.proofs.Sets.{bit_word}
 use Rattle.protocol.proofs.turns.vote_of.Statement.{statement}
 use Rattle.protocol.proofs.turns.vote_of.Tie as tie
 
-shl_result : tie.Need-overflow-shl-result
+shl_result : tie.Need-overflow_shl-result
 shl_result c = search rules
 
 returns : tie.Need-returns

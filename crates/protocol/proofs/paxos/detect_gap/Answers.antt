@@ -1,7 +1,6 @@
 -- `protocol::paxos::detect_gap` meets its contract: the lowest term that is not held, of those after last accepted, is the gap if it is
 -- below the end.
 -- Assumes nothing.
-use borrow.Author.Rules.{rules}
 use Prim.Native.Nat.{ℕ, ◌+◌, ◌-◌, ◌/◌, ◌%◌, ◌^◌, ◌≤◌, ◌<◌}
 use mathlib.Core.Bool.{Bool, true, false, not, ◌&&◌}
 use mathlib.Core.List.{List}
@@ -11,7 +10,7 @@ use native.Mathlib.Nat.{le_refl, eq-zero-or-pos, mod-eq_of_lt, lt_of_le_of_lt, d
 use native.Mathlib.Omega.{arith}
 use borrow.Author.Tests.{le-leb, not-true, not-false}
 use lib.Bits.{bit_and, bit_or, and_comm, and_mask, or_lt}
-use lib.Count.{count_trailing_zeros, trailing_le, trailing_of_zero}
+use lib.Count.{count_trailing_zeros, trailing_of_zero}
 use lib.Dec.{eqb}
 use lib.Pow.{shr-shr}
 use Rattle.network.specs.Graph.{has}
@@ -25,8 +24,7 @@ use Rattle.protocol.proofs.Commit.{gap_none, gap_is}
 use Rattle.protocol.proofs.Frame.{pending_word, logged_word}
 use Rattle.protocol.proofs.Kept.{held_in}
 use Rattle.protocol.proofs.Steps.{after_last_lem}
-use Rattle.protocol.proofs.paxos.detect_gap.Statement.{statement}
-use Rattle.protocol.proofs.paxos.detect_gap.Tie as tie
+use Rattle.protocol.proofs.paxos.detect_gap.Goals as goal
 
 in_word : (t : ℕ) → t < 64 → has (2 ^ 64 - 1) t ≡ true
 in_word t h = ap (λ (x : ℕ). has x t) (sym (reach_all 64 63 (le_refl 64))) ∙ has_reach 63 t h ∙ le-leb t 63 (omega arith)
@@ -83,63 +81,22 @@ module _
       gap_is end gap (view b at) (omega (arith, from_last)) h (at_gap (omega arith))
       (λ t g l. before_gap t (omega (arith, from_last)) l (omega arith))
 
-after_last_requires : tie.Need-after-last-requires
-after_last_requires c κs = search rules
-
-returns : tie.Need-returns
-returns c =
-    let last = c.before.after_last in
-    let a = c.before.before.before.args in
+pub returns-then-end-last : goal.returns-then-end-last
+returns-then-end-last c =
+    let a = c.args in
     let from = after_last_lem (last_at a.states.now a.at) in
-    sym (gap_none a.up-to-term.0 (view a.states.now a.at) (λ t g h. absurd (omega (arith, last.ensures, c.if1.true))))
+    sym (gap_none a.up_to_term.0 (view a.states.now a.at) (λ t g h. absurd (omega (arith, c.after_last-last.ensures, c.if-end-last.true))))
 
-held_set_requires : tie.Need-held-set-requires
-held_set_requires c κs = search rules
+pub returns-then-end-t : goal.returns-then-end-t
+returns-then-end-t c =
+    let a = c.args in
+    sym
+    (none_up_to a.states.now a.at c.held_set.result c.after_last-last.result c.requires.0 c.held_set.ensures c.after_last-last.ensures a.up_to_term.0
+    c.if-end-t.true c.requires.1)
 
-shr_free : tie.Need-overflow-shr-free
-shr_free c = omega (arith, c.before.before.after_last.ensures, c.before.before.before.before.requires.0.last_below)
-
-module _ (c : tie.After-held-set) where
-  abbrev start : tie.Start
-  start = c.before.before.before.before
-
-  abbrev all_here : ℕ
-  all_here = c.held-set.result
-
-  abbrev last_here : ℕ
-  last_here = c.before.before.after_last.result
-
-cast_t : tie.Need-overflow-cast-t
-cast_t c = omega (arith, trailing_le 64 ((2 ^ 64 - 1 - all_here c) / 2 ^ last_here c))
-
-add_t : tie.Need-overflow-add-t
-add_t c =
-    let s = start c in
-    omega (arith, trailing_le 64 ((2 ^ 64 - 1 - all_here c) / 2 ^ last_here c), c.before.before.after_last.ensures, s.pre.0.last_below)
-
-returns_2 : tie.Need-returns-2
-returns_2 c =
-    let h = c.before in
-    let s = start h in
-    let a = s.args in
-    sym (none_up_to a.states.now a.at (all_here h) (last_here h) s.pre.0 h.held-set.ensures h.before.before.after_last.ensures a.up-to-term.0 c.if2.true s.pre.1)
-
-returns_3 : tie.Need-returns-3
-returns_3 c =
-    let h = c.before in
-    let s = start h in
-    let a = s.args in
-    sym (one_below a.states.now a.at (all_here h) (last_here h) s.pre.0 h.held-set.ensures h.before.before.after_last.ensures a.up-to-term.0 c.if2.false s.pre.1)
-
-pub detect_gap_spec : {M : Type 1} → statement M
-detect_gap_spec =
-    tie.close
-    (tie.spec
-    after_last_requires
-    returns
-    held_set_requires
-    shr_free
-    cast_t
-    add_t
-    returns_2
-    returns_3)
+pub returns : goal.returns
+returns c =
+    let a = c.args in
+    sym
+    (one_below a.states.now a.at c.held_set.result c.after_last-last.result c.requires.0 c.held_set.ensures c.after_last-last.ensures a.up_to_term.0
+    c.if-end-t.false c.requires.1)

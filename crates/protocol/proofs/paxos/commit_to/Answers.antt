@@ -1,0 +1,18 @@
+-- `protocol::paxos::commit_to` meets its contract, by cases.
+-- Assumes nothing.
+use mathlib.Core.Path.{refl, subst}
+use Rattle.protocol.specs.Paxos.{commit_to, newly_to, term_set}
+use Rattle.protocol.specs.View.{last_below}
+use Rattle.protocol.proofs.Steps.{next_same}
+use Rattle.protocol.proofs.paxos.commit_to.Goals as goal
+
+pub commit_up_to-requires : goal.commit_up_to-requires
+commit_up_to-requires c = (c.requires.0, subst (last_below 64) c.in-At.is c.requires.1)
+
+pub returns-in-None : goal.returns-in-None
+unfolding commit_to newly_to term_set
+returns-in-None c = rw c.in-None.is (record { next = next_same refl; newly = refl })
+
+pub returns-in-At : goal.returns-in-At
+unfolding commit_to newly_to
+returns-in-At c = rw c.in-At.is c.commit_up_to.ensures

@@ -1,0 +1,13 @@
+-- No term from t on has a quorum.
+use Prim.Native.Nat.{ℕ, ◌-◌, ◌≤◌}
+use mathlib.Core.Bool.{false}
+use mathlib.Core.Path.{◌≡◌}
+use Rattle.protocol.specs.Paxos.{quorum}
+use Rattle.protocol.specs.View.{pending_of}
+use Rattle.protocol.proofs.paxos.greatest_quorum.Given as goal
+
+abbrev pub invariant-loop-t : goal.invariant-loop-t
+invariant-loop-t l = record { few : l.t ≤ 64; none : (u : ℕ) → l.t ≤ u → quorum l.n (pending_of l.states l.at u) ≡ false }
+
+abbrev pub decreases-loop-t : goal.decreases-loop-t
+decreases-loop-t l = l.t - l.first
