@@ -1,3 +1,5 @@
 // The rounds of a run, up to its end.
+#![tactic(auto)]
+
 pub mod run;
 mod survey;

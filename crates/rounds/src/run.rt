@@ -19,7 +19,7 @@ use random::draws::{STREAM_SIZE, begin_draws};
 use rules::answer::SeenRound;
 
 // What a run is given beside the rows of its graph.
-#[derive(Drop)]
+#[derive(Clone, Copy)]
 pub struct Plan {
     pub nodes: usize,
     pub diameter: usize,
@@ -28,7 +28,7 @@ pub struct Plan {
 
 // Where a run stands between rounds: its radios, what the nodes share, how many nodes took part over all rounds, and the
 // progress, the length of the shortest log, which snapshots show.
-#[derive(Drop)]
+#[derive(Clone, Copy)]
 pub struct Run {
     pub flood: Radios,
     pub carry: Carry,
@@ -37,14 +37,14 @@ pub struct Run {
 }
 
 // One round that was run: where the run stands after it, and what is seen of it.
-#[derive(Drop)]
+#[derive(Clone, Copy)]
 pub struct Played {
     pub run: Run,
     pub round: SeenRound,
 }
 
 // One round more: where the run stands after it, what is seen of it, and the end that came with it, or 0.
-#[derive(Drop)]
+#[derive(Clone, Copy)]
 pub struct Next {
     pub run: Run,
     pub round: SeenRound,
@@ -52,7 +52,7 @@ pub struct Next {
 }
 
 // The last of the rounds that a run may have, if it came to it.
-#[derive(Drop)]
+#[derive(Clone, Copy)]
 pub enum LastRound {
     None,
     Of(SeenRound),
@@ -60,7 +60,7 @@ pub enum LastRound {
 
 // A run that has stopped: after how many rounds, the last that it might have, and its end; 0 where the rounds were used
 // up.
-#[derive(Drop)]
+#[derive(Clone, Copy)]
 pub struct Stopped {
     pub run: Run,
     pub rounds: u64,

@@ -9,7 +9,7 @@ use network::units::NodeId;
 use protocol::state::{logged_set, place_of};
 
 // The length of the shortest log, and whether all logs hold every proposal.
-#[derive(Drop)]
+#[derive(Clone, Copy)]
 pub struct Surveyed {
     pub shortest: u64,
     pub complete: bool,

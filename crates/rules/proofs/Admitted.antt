@@ -40,7 +40,7 @@ accepts {graph} {n} {d} c graph_is e =
       repeats_low = q.repeats.0;
       repeats_high = q.repeats.1;
       round_slots = q.slots;
-      slots_suffice_lem = q.suffice;
+      slots_suffice = q.suffice;
       proposals = q.proposals;
       interval = q.interval;
     }

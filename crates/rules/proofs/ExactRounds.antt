@@ -66,12 +66,12 @@ module _ (g : Given) (logs records snapshots : List ℕ) (a : Accepted g) (w : S
         reached = (stopped.after.covered, stopped.after.took_part);
         proposals = ap length records_are ∙ length_tabulate g.proposals (exact_record (first_slot g) g.nodes);
         recorded = records_are;
-        record_at_lem = record_is;
-        log_of_lem = λ j h.
+        record_at = record_is;
+        log_of = λ j h.
             record {
               log = logs_are j h;
               count = count_at logs (run g).running.shared.states g.nodes g.proposals b.for_logs a.few a.proposals logs_are g.nodes j (omega arith) h;
-              term_at_lem = λ t l. term_at_lem logs (run g).running.shared.states g.nodes g.proposals b.for_logs a.few a.proposals logs_are g.nodes j t (omega arith) h l;
+              term_at = λ t l. term_at_lem logs (run g).running.shared.states g.nodes g.proposals b.for_logs a.few a.proposals logs_are g.nodes j t (omega arith) h l;
             };
       }
 

@@ -7,7 +7,6 @@ use mathlib.Core.Path.{◌≡◌, refl, sym, ap, ap₂, ◌∙◌, subst}
 use native.Mathlib.Nat.{mod-lt, mul-le-mul_right}
 use native.Mathlib.Omega.{arith}
 use lib.ListN.{length, get_elem?, replicate, length-append, length-replicate, get_or-replicate}
-use Rattle.network.specs.Distance.{diameter}
 use Rattle.random.specs.Table.{tabulate}
 use Rattle.random.proofs.Tables.{is_tabulate}
 use Rattle.network.proofs.Distances.{eccentricity_diameter}

@@ -9,7 +9,7 @@ use borrow.Author.Tests.{leb-false, lt-leb}
 use lib.Dec.{leb, eqb}
 use Rattle.config.specs.Limits.{most_rounds}
 use Rattle.network.proofs.Sets.{two}
-use Rattle.protocol.proofs.Growing.{extends_refl, extends_trans}
+use Rattle.protocol.proofs.Growing.{continues_refl, continues_trans}
 use Rattle.pipeline.specs.Round.{Prepared, initiator_of}
 use Rattle.pipeline.proofs.RecordsGrow.{prepared_grow, processed_grow}
 use Rattle.rules.specs.Entries.{given_for}
@@ -20,13 +20,13 @@ use Rattle.rules.proofs.Ends.{from_limit, from_next, from_end, along_rounds}
 -- ---- one run
 
 on_refl : (r : Running) → GoesOn r r
-on_refl r = record { rounds = extends_refl r.rounds; records = extends_refl r.shared.records }
+on_refl r = record { rounds = continues_refl r.rounds; records = continues_refl r.shared.records }
 
 on_trans : {r s t : Running} → GoesOn r s → GoesOn s t → GoesOn r t
 on_trans {r} {s} {t} a b =
     record {
-      rounds = extends_trans r.rounds s.rounds t.rounds a.rounds b.rounds;
-      records = extends_trans r.shared.records s.shared.records t.shared.records a.records b.records;
+      rounds = continues_trans r.rounds s.rounds t.rounds a.rounds b.rounds;
+      records = continues_trans r.shared.records s.shared.records t.shared.records a.records b.records;
     }
 
 -- a round is added, and perhaps records
@@ -37,7 +37,7 @@ on_round g k r =
     record {
       rounds = (past_in g k r ∷ [], refl);
       records =
-          extends_trans r.shared.records prepared.shared.records _
+          continues_trans r.shared.records prepared.shared.records _
           (prepared_grow g.nodes g.proposals (initiator_of g.nodes k) r.standing.slot r.shared)
           (processed_grow g.nodes prepared.packet (flooded_in g k r).after.slot (flooded_in g k r).part prepared.shared);
     }

@@ -24,6 +24,6 @@ pub record Accepted (g : Given) : Type 0 where
   pub repeats_low : 1 ≤ g.repeats
   pub repeats_high : g.repeats ≤ max_repeats
   pub round_slots : slots_allowed g.round_slots ≡ true
-  pub slots_suffice_lem : slots_suffice g.repeats g.round_slots ≡ true
+  pub slots_suffice : slots_suffice g.repeats g.round_slots ≡ true
   pub proposals : g.proposals ≤ max_terms
   pub interval : 1 ≤ g.interval

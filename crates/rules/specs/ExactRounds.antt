@@ -71,7 +71,7 @@ pub record ExactRecord (g : Given) (records : List ℕ) (t : ℕ) : Type 0 where
 pub record ExactLog (g : Given) (e : Ended) (logs : List ℕ) (j : ℕ) : Type 0 where
   pub log : terms (state_of e.running.shared.states j).log ≡ tabulate g.proposals (λ (t : ℕ). t)
   pub count : get_or logs (log_counts + j) 0 ≡ g.proposals
-  pub term_at_lem : (t : ℕ) → t < g.proposals → get_or logs (max_terms * j + t) 0 ≡ t
+  pub term_at : (t : ℕ) → t < g.proposals → get_or logs (max_terms * j + t) 0 ≡ t
 
 -- ---- the run
 
@@ -95,9 +95,9 @@ pub record ExactRounds (g : Given) (e : Ended) (s : Summary) (logs records : Lis
   pub recorded :
       e.running.shared.records
       ≡ tabulate g.proposals (λ (t : ℕ). record { id = t; start = first_slot g t; end = first_slot g (t + g.nodes / 2) })
-  pub record_at_lem : (t : ℕ) → t < g.proposals → ExactRecord g records t
+  pub record_at : (t : ℕ) → t < g.proposals → ExactRecord g records t
   -- every log
-  pub log_of_lem : (j : ℕ) → j < g.nodes → ExactLog g e logs j
+  pub log_of : (j : ℕ) → j < g.nodes → ExactLog g e logs j
 
 -- ---- the premises
 

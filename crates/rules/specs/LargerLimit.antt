@@ -1,7 +1,7 @@
 -- A run with a larger slot limit goes on where the one with the smaller limit stopped (rule 12.11).
 use Rattle.std.specs.Prelude.{ℕ, ◌≤◌}
 use Rattle.config.specs.declared.Config.{Config}
-use Rattle.protocol.specs.Growth.{Extends}
+use Rattle.protocol.specs.Growth.{Continues}
 use Rattle.rules.specs.Networks.{RowsOrTopology}
 use Rattle.rules.specs.Run.{Given, Running, run}
 use Rattle.rules.specs.Entries.{given_for}
@@ -23,8 +23,8 @@ limited_given limit g =
 
 -- the rounds of the second run are those of the first and then perhaps more; its records likewise
 pub record GoesOn (r later : Running) : Type 0 where
-  pub rounds : Extends r.rounds later.rounds
-  pub records : Extends r.shared.records later.shared.records
+  pub rounds : Continues r.rounds later.rounds
+  pub records : Continues r.shared.records later.shared.records
 
 abbrev pub LargerLimit : Type 0
 LargerLimit = (g : Given) (limit : ℕ) → g.limit ≤ limit → GoesOn (run g).running (run (limited_given limit g)).running

@@ -7,7 +7,7 @@ use network::distance::diameter_of;
 use network::topology::{Built, BuiltGraph, build_graph, checked_graph};
 
 // A number of nodes and a diameter, or the number of the question that was answered "no".
-#[derive(Drop)]
+#[derive(Clone, Copy)]
 pub enum Extent {
     Of(usize, usize),
     Refused(u64),

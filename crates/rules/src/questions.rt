@@ -9,7 +9,7 @@ use config::{Config, RoundSlots};
 use network::questions::lies_in;
 
 // The number of the first question that is answered "no", or none.
-#[derive(Drop)]
+#[derive(Clone, Copy)]
 pub enum Refusal {
     None,
     Number(u64),

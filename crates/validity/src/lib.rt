@@ -1,5 +1,7 @@
 // Whether a configuration that was filed earlier would still be run. Its questions are asked, and nothing is run: no buffer
 // is lent, and nothing is written.
+#![tactic(auto)]
+
 ghost use Rattle.std.specs.Prelude.{◌≡◌};
 ghost use Rattle.rules.specs.Networks.{RowsOrTopology, of_rows, of_topology, built_for};
 ghost use Rattle.rules.specs.Questions.{config_questions};
@@ -11,7 +13,7 @@ use rules::questions::{Refusal, SHORT_ROUND, config_refusal, other_refusal};
 
 // Current: it would be run. Outdated: its rounds are too short, and nothing else is wrong. Refused: the number of the first
 // other question that is answered "no".
-#[derive(Drop)]
+#[derive(Clone, Copy)]
 pub enum Validity {
     Current,
     Outdated,

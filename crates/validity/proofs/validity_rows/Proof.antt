@@ -8,7 +8,7 @@ use Rattle.validity.proofs.validity_rows.Tie as tie
 returns : tie.Need-returns
 returns c =
     let a = c.before.before.before.args in
-    c.network-validity.ensures (of_rows a.rows.now a.n) (ap (λ (g : BuiltGraph). g.answer) c.before.checked-graph.ensures)
+    c.network_validity.ensures (of_rows a.rows.now a.n) (ap (λ (g : BuiltGraph). g.answer) c.before.checked_graph-checked.ensures)
 
 pub validity_rows_spec : {M : Type 1} → statement M
 validity_rows_spec = tie.close (tie.spec (λ c κs. search rules) (λ c κs. search rules) returns)

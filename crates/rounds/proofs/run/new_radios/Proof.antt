@@ -3,7 +3,7 @@ use Rattle.rounds.proofs.Beginning.{new_radios_lem}
 use Rattle.rounds.proofs.run.new_radios.Statement.{statement}
 use Rattle.rounds.proofs.run.new_radios.Tie as tie
 
-full_set_requires : tie.Need-full-set-requires
+full_set_requires : tie.Need-full_set-requires
 full_set_requires c κs = search rules
 
 returns : tie.Need-returns

@@ -4,7 +4,7 @@ use lib.Count.{ones-le}
 use Rattle.rounds.proofs.run.size.Statement.{statement}
 use Rattle.rounds.proofs.run.size.Tie as tie
 
-cast_result : tie.Need-overflow-cast-result
+cast_result : tie.Need-overflow_cast-result
 cast_result c = omega (arith, ones-le 64 c.args.set c.ranges.set.fits)
 
 returns : tie.Need-returns

@@ -9,8 +9,8 @@ use Rattle.rules.proofs.questions.config_refusal.Tie as tie
 returns : tie.Need-returns
 returns c =
     let a = c.before.before.before.args in
-    c.first-refusal.ensures
-    ∙ ap₂ or_else c.before.before.round-refusal.ensures c.before.other-refusal.ensures
+    c.first_refusal.ensures
+    ∙ ap₂ or_else c.before.before.round_refusal.ensures c.before.other_refusal.ensures
     ∙ sym (first_of_both (round_questions a.config) (other_questions a.config))
 
 pub config_refusal_spec : {M : Type 1} → statement M

@@ -9,8 +9,8 @@ use Rattle.rules.proofs.questions.run_refusal.Tie as tie
 returns : tie.Need-returns
 returns c =
     let a = c.before.before.before.args in
-    c.first-refusal.ensures
-    ∙ ap₂ or_else c.before.before.config-refusal.ensures c.before.buffer-refusal.ensures
+    c.first_refusal.ensures
+    ∙ ap₂ or_else c.before.before.config_refusal.ensures c.before.buffer_refusal.ensures
     ∙ sym (first_of_both (config_questions a.config) (buffer_questions a.logs a.records))
 
 pub run_refusal_spec : {M : Type 1} → statement M
