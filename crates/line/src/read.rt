@@ -11,7 +11,7 @@ use text::numeral::{Number, decimal, hexadecimal};
 const LINE_FIELDS: usize = 10;
 
 // What the line asks for. The loss rate is the bits of its f64.
-#[derive(Drop)]
+#[derive(Clone, Copy)]
 pub struct Line {
     pub topology: u64,
     pub first: u64,
@@ -25,21 +25,21 @@ pub struct Line {
     pub limit: u64,
 }
 
-#[derive(Drop)]
+#[derive(Clone, Copy)]
 pub enum Read {
     Line(Line),
     Unreadable,
 }
 
 // What the field of the round slots stands for.
-#[derive(Drop)]
+#[derive(Clone, Copy)]
 enum SlotsField {
     Of(RoundSlots),
     Unreadable,
 }
 
 // What four fields with decimals stand for.
-#[derive(Drop)]
+#[derive(Clone, Copy)]
 enum Four {
     Of(u64, u64, u64, u64),
     Unreadable,
@@ -131,6 +131,7 @@ fn is_dash(text: &[u8]) -> bool
 }
 
 // The round slots: `-` where they are absent, else a decimal.
+#[tactic(auto, unfolding(crate::specs::Line::round_slots_of))]
 fn round_slots(text: &[u8]) -> SlotsField
     ensures { slots_of result ≡ round_slots_of text.now }
 {
@@ -200,6 +201,7 @@ fn read_fields(line: &[u8]) -> Read
 }
 
 // Reads the line that ends at the first newline or the end of the input.
+#[tactic(auto, unfolding(crate::specs::Line::read_line))]
 pub fn read_line(input: &[u8]) -> Read
     ensures { result ≡ read_line input.now }
 {

@@ -11,11 +11,11 @@ use config::limits::{LOG_COUNTS, MAX_LISTED, MAX_NODES, MAX_TERMS, RECORD_SIZE, 
 use metrics::summary::Summary;
 use text::overlay::put;
 
-// No listing has more bytes: `listingMost` adds them up.
+// No listing has more bytes: `listing_most` adds them up.
 pub const LISTING_SIZE: usize = 165424;
 
 // The lists of the listing, which have a line an item.
-#[derive(Drop)]
+#[derive(Clone, Copy)]
 enum Lines {
     Proposals,
     Snapshots,

@@ -94,6 +94,7 @@ fn terms_fit(packet: Packet) -> bool
     piggyback_fits(piggyback)
 }
 
+#[tactic(auto, unfolding(crate::specs::Grammar::has_text))]
 pub fn has_text(packet: Packet, flags: u64) -> bool
     ensures { result ≡ has_text flags packet }
 {

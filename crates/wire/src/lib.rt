@@ -1,4 +1,6 @@
 // Packets as text: the JSON that ctsim's `serialize_packet` makes. A packet goes with its number of flags.
+#![tactic(auto)]
+
 mod fits;
 pub mod put;
 
@@ -11,7 +13,7 @@ use put::{TEXT_SIZE, put_packet};
 use text::overlay::copy;
 
 // What the writer answers: how many bytes the text has, or the refusal with its number.
-#[derive(Drop)]
+#[derive(Clone, Copy)]
 pub enum Writing {
     Text(usize),
     Refused(u64),

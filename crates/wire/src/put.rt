@@ -12,7 +12,7 @@ use network::units::NodeId;
 use phy::packet::{Data, LastAccepted, Nack, Packet, Piggyback};
 use text::overlay::{put, put_number, put_word};
 
-// No text has more bytes: `textMost` adds them up.
+// No text has more bytes: `text_most` adds them up.
 pub const TEXT_SIZE: usize = 366;
 
 // No data's text has more bytes.

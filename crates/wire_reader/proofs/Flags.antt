@@ -15,13 +15,13 @@ use Rattle.network.specs.Graph.{has, set_of}
 use Rattle.network.proofs.Sets.{set_of_lt, has_set_of, set_of_cong, set_of_has}
 use Rattle.text.specs.Text.{ascii}
 use Rattle.wire.specs.Grammar.{behind_commas, array, flag_text, flags_text}
-use Rattle.wire_reader.specs.Reader.{Reader, behind, give, ◌>>=◌, ◌>>◌, behind_word, ◌orElse◌, flag, flags_in, counted, flags}
+use Rattle.wire_reader.specs.Reader.{Reader, behind, give, ◌>>=◌, ◌>>◌, behind_word, ◌or_else◌, flag, flags_in, counted, flags}
 use Rattle.wire_reader.proofs.Words.{word_reads, bind_reads, Claim, Finds, Only, give_finds, word_finds, bind_finds, or_finds}
 
 -- ---- one flag
 
 flag_reads : (f : Bool) (t : List ℕ) → flag (flag_text f ++ t) ≡ some (f, t)
-unfolding flag ◌orElse◌ behind_word behind give ascii
+unfolding flag ◌or_else◌ behind_word behind give ascii
 flag_reads true t = refl
 flag_reads false t = refl
 
@@ -41,12 +41,12 @@ abbrev after : ℕ → Bool → Reader (List Bool)
 after most f = ("]" >> give (f ∷ [])) or_else ("," >> (flags_in most >>= λ fs. give (f ∷ fs)))
 
 after_last_lem : (most : ℕ) (f : Bool) (t : List ℕ) → after most f (ascii "]" ++ t) ≡ some (f ∷ [], t)
-unfolding ◌orElse◌ behind_word behind give ascii
+unfolding ◌or_else◌ behind_word behind give ascii
 after_last_lem most f t = refl
 
 after_more : (most : ℕ) (f : Bool) (t : List ℕ) {fs : List Bool} {u : List ℕ}
     → flags_in most t ≡ some (fs, u) → after most f (ascii "," ++ t) ≡ some (f ∷ fs, u)
-unfolding ◌orElse◌ behind_word behind give ascii
+unfolding ◌or_else◌ behind_word behind give ascii
 after_more most f t e = bind_reads _ _ t e
 
 items_read : (most : ℕ) (fs : List Bool) (t : List ℕ) → 1 ≤ length fs → length fs ≤ most → flags_in most (items_text fs ++ t) ≡ some (fs, t)

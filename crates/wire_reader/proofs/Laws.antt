@@ -22,7 +22,7 @@ use Rattle.text.proofs.Overlays.{front_is}
 use Rattle.text.specs.Text.{ascii, spelled, spelled_in}
 use Rattle.text.specs.Numeral.{digit}
 use Rattle.wire.specs.Grammar.{last_accepted_fits, nack_fits, data_fits, piggyback_fits, has_text, data_bytes, behind_commas, array, flags_text, last_accepted_text, nack_number, data_text, piggyback_text, header_text, body_text, packet_text}
-use Rattle.wire_reader.specs.Reader.{behind, give, ◌>>=◌, behind_word, ◌orElse◌, below, second_digit, number, last_accepted, flag, flags_in, counted, flags, data_of, piggyback, header, body, packet_of, packet}
+use Rattle.wire_reader.specs.Reader.{behind, give, ◌>>=◌, behind_word, ◌or_else◌, below, second_digit, number, last_accepted, flag, flags_in, counted, flags, data_of, piggyback, header, body, packet_of, packet}
 use Rattle.wire.specs.Writing.{no_text, writing}
 use Rattle.wire_reader.specs.Reading.{nothing_behind, reading, ExactlyTheTexts, WhatIsWrittenIsRead, WhatIsReadIsWritten, TextsTellApart}
 use Rattle.wire_reader.specs.declared.fields.Header.{Header}
@@ -233,6 +233,6 @@ pub the_example : reading
       piggyback = Piggyback.None;
     })
     2
-unfolding reading packet header body piggyback data_of flags counted flags_in flag last_accepted number second_digit below ◌orElse◌ behind_word ◌>>=◌
+unfolding reading packet header body piggyback data_of flags counted flags_in flag last_accepted number second_digit below ◌or_else◌ behind_word ◌>>=◌
     give behind set_of data_text data_bytes array behind_commas ascii spelled spelled_in digit
 the_example = refl

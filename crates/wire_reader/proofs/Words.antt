@@ -7,7 +7,7 @@ use mathlib.Core.Option.{Option, none, some, none-ne-some, some-injective}
 use mathlib.Core.List.{List, [], ◌∷◌, ◌++◌}
 use lib.Dec.{eqb}
 use borrow.Author.Tests.{eq-eqb, ne_eqb, eqb-true}
-use Rattle.wire_reader.specs.Reader.{Reader, behind, give, onward, ◌>>=◌, beyond, behind_word, otherwise, ◌orElse◌}
+use Rattle.wire_reader.specs.Reader.{Reader, behind, give, onward, ◌>>=◌, beyond, behind_word, otherwise, ◌or_else◌}
 
 -- ---- a word at the front
 
@@ -58,11 +58,11 @@ field_reads word first next t e = word_reads word (first >>= next) t ∙ bind_re
 
 module _ {A : Type 0} (first second : Reader A) (t : List ℕ) where
   pub or_first : {z : A × List ℕ} → first t ≡ some z → (first or_else second) t ≡ some z
-  unfolding ◌orElse◌
+  unfolding ◌or_else◌
   or_first e = simp e
 
   pub or_second : first t ≡ none → (first or_else second) t ≡ second t
-  unfolding ◌orElse◌
+  unfolding ◌or_else◌
   or_second e = simp e
 
 -- ---- what holds of all that a reader finds
@@ -108,7 +108,7 @@ pub field_finds : {A B : Type 0} (word : List ℕ) (first : Reader A) (next : A 
 field_finds word first next Q text only h = word_finds word (first >>= next) Q (bind_finds first next _ text only h)
 
 pub or_finds : {A : Type 0} (first second : Reader A) (Q : Claim A) → Finds first Q → Finds second Q → Finds (first or_else second) Q
-unfolding ◌orElse◌
+unfolding ◌or_else◌
 or_finds {A} first second Q h h' t a u e = case (first t) refl e
   where
     case : (o : Option (A × List ℕ)) → first t ≡ o → otherwise o (second t) ≡ some (a, u) → Q a t u

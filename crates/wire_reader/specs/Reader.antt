@@ -56,12 +56,12 @@ abbrev pub otherwise : {A : Type 0} → Option (A × List ℕ) → Option (A × 
 otherwise none other = other
 otherwise (some found) other = some found
 
-unfoldable pub ◌orElse◌ : {A : Type 0} → Reader A → Reader A → Reader A
+unfoldable pub ◌or_else◌ : {A : Type 0} → Reader A → Reader A → Reader A
 (first or_else second) t = otherwise (first t) (second t)
 
 infixl 10 ◌>>=◌
 infixr 10 ◌>>◌
-infixr 5 ◌orElse◌
+infixr 5 ◌or_else◌
 -- ---- the values
 
 -- n, where it is below the bound

@@ -16,51 +16,51 @@ use wire::put::{DATA_SIZE, put_data};
 const TERMS: u64 = MAX_TERMS as u64;
 
 // The place behind a word, if the word stands there.
-#[derive(Drop)]
+#[derive(Clone, Copy)]
 pub enum WordFound {
     Before(usize),
     None,
 }
 
-#[derive(Drop)]
+#[derive(Clone, Copy)]
 pub enum NumberFound {
     Of(u64, usize),
     None,
 }
 
-#[derive(Drop)]
+#[derive(Clone, Copy)]
 pub enum LastAcceptedFound {
     Of(LastAccepted, usize),
     None,
 }
 
-#[derive(Drop)]
+#[derive(Clone, Copy)]
 pub enum FlagFound {
     Of(bool, usize),
     None,
 }
 
 // The set of those that are true, and how many there are.
-#[derive(Drop)]
+#[derive(Clone, Copy)]
 pub enum FlagsFound {
     Of(u64, u64, usize),
     None,
 }
 
-#[derive(Drop)]
+#[derive(Clone, Copy)]
 pub enum DataFound {
     Of(Data, usize),
     None,
 }
 
-#[derive(Drop)]
+#[derive(Clone, Copy)]
 pub enum PiggybackFound {
     Of(Piggyback, usize),
     None,
 }
 
 // A packet's fields up to the sender, and its number of flags.
-#[derive(Drop)]
+#[derive(Clone, Copy)]
 pub struct Header {
     pub current_term: Term,
     pub last_accepted_term: LastAccepted,
@@ -70,20 +70,20 @@ pub struct Header {
     pub sender: NodeId,
 }
 
-#[derive(Drop)]
+#[derive(Clone, Copy)]
 pub enum HeaderFound {
     Of(Header, usize),
     None,
 }
 
 // A packet's fields behind the sender.
-#[derive(Drop)]
+#[derive(Clone, Copy)]
 pub struct Body {
     pub proposal_data: Data,
     pub piggyback: Piggyback,
 }
 
-#[derive(Drop)]
+#[derive(Clone, Copy)]
 pub enum BodyFound {
     Of(Body, usize),
     None,

@@ -1,4 +1,6 @@
 // Reads the JSON that ctsim's `serialize_packet` makes, and no other text.
+#![tactic(auto)]
+
 mod fields;
 
 ghost use Rattle.std.specs.Prelude.{◌≡◌};
@@ -10,7 +12,7 @@ use phy::packet::Packet;
 use wire::NO_TEXT;
 
 // What the reader answers: the packet and its number of flags, or the refusal with its number.
-#[derive(Drop)]
+#[derive(Clone, Copy)]
 pub enum Reading {
     Packet(Packet, u64),
     Refused(u64),

@@ -2,7 +2,7 @@ use borrow.Author.Rules.{rules}
 use Rattle.line.proofs.configured.config_of.Statement.{statement}
 use Rattle.line.proofs.configured.config_of.Tie as tie
 
-rate_of_requires : tie.Need-rate-of-requires
+rate_of_requires : tie.Need-rate_of-requires
 rate_of_requires c κs = search rules
 
 returns : tie.Need-returns

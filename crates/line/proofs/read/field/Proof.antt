@@ -10,10 +10,10 @@ use Rattle.line.proofs.read.field.Tie as tie
 
 returns : tie.Need-returns
 returns c =
-    let start = c.before.before.field-start in
+    let start = c.before.before.field_start-start in
     let line = c.before.before.before.before.args.line.now in
     let rest : length (drop start.result line) ≤ length line - start.result = simp length-drop (omega arith) in
-    c.part-before.ensures ∙ ap (bytes_before space) (take_all _ _ rest) ∙ start.ensures.1
+    c.part_before.ensures ∙ ap (bytes_before space) (take_all _ _ rest) ∙ start.ensures.1
 
 pub field_spec : {M : Type 1} → statement M
 field_spec =

@@ -7,7 +7,7 @@ use Rattle.listing.proofs.words.put_labelled.Tie as tie
 returns : tie.Need-returns
 returns c =
     let word = c.before.before.before.before.before.before in
-    within (word.put_word.ensures then c.before.before.put-number.ensures) (omega arith)
+    within (word.put_word-next.ensures then c.before.before.put_number.ensures) (omega arith)
 
 pub put_labelled_spec : {M : Type 1} → statement M
 put_labelled_spec =

@@ -6,7 +6,7 @@ use Rattle.listing.proofs.words.put_spaced.Tie as tie
 returns : tie.Need-returns
 returns c =
     let space = c.before.before.before.before.before.before in
-    space.put.ensures then c.before.before.put-number.ensures
+    space.put-next.ensures then c.before.before.put_number.ensures
 
 pub put_spaced_spec : {M : Type 1} → statement M
 put_spaced_spec =

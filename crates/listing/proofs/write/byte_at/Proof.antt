@@ -5,11 +5,11 @@ use lib.ListN.{get_or-eq_default}
 use Rattle.listing.proofs.write.byte_at.Statement.{statement}
 use Rattle.listing.proofs.write.byte_at.Tie as tie
 
-cast_result : tie.Need-overflow-cast-result
-cast_result c = omega (arith, c.shared-slice-known.given c.before.before.args.i)
+cast_result : tie.Need-overflow_cast-result
+cast_result c = omega (arith, c.shared_slice_known-1.given c.before.before.args.i)
 
-returns_2 : tie.Need-returns-2
-returns_2 c = sym (get_or-eq_default c.before.args.s.now 0 c.if1.false)
+returns_2 : tie.Need-returns-else-i-s
+returns_2 c = sym (get_or-eq_default c.before.args.s.now 0 c.if-i-s.false)
 
 pub byte_at_spec : {M : Type 1} → statement M
 byte_at_spec =

@@ -4,8 +4,8 @@ use lib.ListN.{get_or-eq_default}
 use Rattle.listing.proofs.write.number_at.Statement.{statement}
 use Rattle.listing.proofs.write.number_at.Tie as tie
 
-returns_2 : tie.Need-returns-2
-returns_2 c = sym (get_or-eq_default c.before.args.s.now 0 c.if1.false)
+returns_2 : tie.Need-returns-else-i-s
+returns_2 c = sym (get_or-eq_default c.before.args.s.now 0 c.if-i-s.false)
 
 pub number_at_spec : {M : Type 1} → statement M
 number_at_spec =

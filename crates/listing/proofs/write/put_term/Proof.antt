@@ -6,7 +6,7 @@ use Rattle.listing.proofs.write.put_term.Tie as tie
 
 returns : tie.Need-returns
 unfolding term_text labelled ascii
-returns c = rw c.before.before.before.before.byte_at.ensures at c.before.before.put-spaced.ensures
+returns c = rw c.before.before.before.before.byte_at-term.ensures at c.before.before.put_spaced.ensures
 
 pub put_term_spec : {M : Type 1} → statement M
 put_term_spec =

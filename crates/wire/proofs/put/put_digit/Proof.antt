@@ -8,7 +8,7 @@ returns : tie.Need-returns
 unfolding ascii
 returns c =
     let comma = c.before.before.before.before.before.before in
-    comma.put.ensures then c.before.before.put_small.ensures
+    comma.put-next.ensures then c.before.before.put_small.ensures
 
 pub put_digit_spec : {M : Type 1} → statement M
 put_digit_spec =

@@ -9,7 +9,7 @@ returns : tie.Need-returns
 returns c =
     let number = c.before.before in
     let start = number.before.before.before in
-    bounded number.put-number.ensures (spelled_short 2 start.args.n (omega arith) (omega (arith, start.requires)))
+    bounded number.put_number.ensures (spelled_short 2 start.args.n (omega arith) (omega (arith, start.requires)))
 
 pub put_small_spec : {M : Type 1} → statement M
-put_small_spec = tie.close (tie.spec (λ c κs. search rules) (λ c. same_size c.before.before.put-number.ensures) returns)
+put_small_spec = tie.close (tie.spec (λ c κs. search rules) (λ c. same_size c.before.before.put_number.ensures) returns)

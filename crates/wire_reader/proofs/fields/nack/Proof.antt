@@ -11,4 +11,4 @@ above zero h = absurd (h refl)
 above (suc n) h = refl
 
 pub nack_spec : {M : Type 1} → statement M
-nack_spec = tie.close (tie.spec (λ c. ap nack (sym c.if1.true)) (λ c. above _ c.if1.false))
+nack_spec = tie.close (tie.spec (λ c. ap nack (sym c.if-n-eq0.true)) (λ c. above _ c.if-n-eq0.false))

@@ -1,0 +1,8 @@
+use Rattle.text.specs.Text.{ascii}
+use Rattle.listing.specs.Listing.{labelled, line_with, radio_line}
+use Rattle.text.proofs.Overlays.{◌then◌}
+use Rattle.listing.proofs.write.put_radio_line.Goals as goal
+
+pub returns : goal.returns
+unfolding radio_line line_with labelled ascii
+returns c = c.put_labelled-a.ensures then (c.put_labelled-b.ensures then (c.put_labelled-c.ensures then c.put.ensures))

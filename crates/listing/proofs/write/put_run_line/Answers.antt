@@ -1,0 +1,10 @@
+use Rattle.text.specs.Text.{ascii}
+use Rattle.listing.specs.Listing.{labelled, line_with, run_line}
+use Rattle.text.proofs.Overlays.{◌then◌}
+use Rattle.listing.proofs.write.put_run_line.Goals as goal
+
+pub returns : goal.returns
+unfolding run_line line_with labelled ascii
+returns c =
+    c.put_labelled-a.ensures then (c.put_labelled-b.ensures then (c.put_labelled-c.ensures
+    then (c.put_labelled-d.ensures then c.put.ensures)))
