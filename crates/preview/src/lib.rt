@@ -1,4 +1,6 @@
 // A look ahead to one round of a run: its packet and the nodes that take part. No buffer is lent, and nothing is written.
+#![tactic(auto)]
+
 ghost use Rattle.std.specs.Prelude.{ℕ, ◌<◌, ◌≡◌, List, replicate};
 ghost use Rattle.config.specs.Limits.{most_rounds};
 ghost use Rattle.pipeline.specs.View.{table_size};
@@ -17,7 +19,7 @@ use rules::networks::{Extent, network_of_rows, network_of_topology};
 use rules::questions::{Refusal, config_refusal};
 
 // What a look ahead answers: the round, or the refusal with its number.
-#[derive(Drop)]
+#[derive(Clone, Copy)]
 pub enum Preview {
     Seen(SeenRound),
     Refused(u64),

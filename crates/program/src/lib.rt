@@ -1,4 +1,6 @@
 // The program's answer to its input: the listing of a run, or a refusal.
+#![tactic(auto)]
+
 ghost use Rattle.listing.specs.Listing.{listing_most};
 ghost use Rattle.text.specs.Overlay.{Written};
 ghost use Rattle.program.specs.Printed.{line_text, printed};

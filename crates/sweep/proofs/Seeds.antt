@@ -31,7 +31,7 @@ module _ {graph : List ℕ} (p : Plan) (seed : ℕ) (ok : Accepted (planned grap
         repeats_low = ok.repeats_low;
         repeats_high = ok.repeats_high;
         round_slots = ok.round_slots;
-        slots_suffice_lem = ok.slots_suffice;
+        slots_suffice = ok.slots_suffice;
         proposals = ok.proposals;
         interval = ok.interval;
       }

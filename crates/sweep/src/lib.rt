@@ -1,4 +1,6 @@
 // A sweep: one configuration over a list of seeds, into a table of seven numbers a seed.
+#![tactic(auto)]
+
 mod clear;
 
 ghost use Rattle.std.specs.Prelude.{ℕ, ◌+◌, ◌*◌, ◌≤◌, ◌≡◌, List, length, replicate};
@@ -24,7 +26,7 @@ use rules::questions::{Refusal, config_refusal, first_refusal};
 use sim::outcome::summary_of;
 
 // What a sweep answers: the sum of its lines' rounds, or the refusal with its number.
-#[derive(Drop)]
+#[derive(Clone, Copy)]
 pub enum Sweep {
     Swept(u64),
     Refused(u64),
@@ -61,7 +63,7 @@ fn plan_with(plan: Plan, seed: u64) -> Plan
     }
 }
 
-// Writes a run's line from the place `at` on, in the order of `sweptLine`.
+// Writes a run's line from the place `at` on, in the order of `swept_line`.
 fn put_swept_line(table: &mut [u64], at: usize, summary: Summary)
     requires { at + swept_size ≤ length table.old }
     ensures { table.new ≡ sets table.old at (swept_line summary) }

@@ -16,46 +16,46 @@ use Rattle.preview.proofs.preview_network.Statement.{statement}
 use Rattle.preview.proofs.preview_network.Tie as tie
 
 -- its questions let it pass
-found : (c : tie.After-extent2) (q : RowsOrTopology) (lent : List ℕ) → let a = c.before.before.args in network a.extent a.graph.now ≡ network_for q lent →
-    Found q a.graph.now c.extent2.given.0.0 c.extent2.given.0.1.0
-found c q lent e = network_found q lent e _ _ c.extent2.given.1
+found : (c : tie.In-Of) (q : RowsOrTopology) (lent : List ℕ) → let a = c.args in network a.extent a.graph.now ≡ network_for q lent →
+    Found q a.graph.now c.in-Of.nodes c.in-Of.diameter
+found c q lent e = network_found q lent e _ _ c.in-Of.is
 
 -- from where the configuration's questions were put to where the network's let it pass
-abbrev passed : tie.After-config-refusal → tie.After-extent2
-passed c = c.before.before
+abbrev passed : tie.After-config_refusal-refusal → tie.In-Of
+passed c = c.before
 
 -- the configuration's questions pass
-pass : (c : tie.After-enum-told) → first_no (config_questions (passed c.before.before).before.before.args.config) ≡ none
-pass c = sym c.before.before.config-refusal.ensures ∙ ap refusal_of c.enum_told.given.1
+pass : (c : tie.In-None) → first_no (config_questions (passed c.before).args.config) ≡ none
+pass c = sym c.config_refusal-refusal.ensures ∙ ap refusal_of c.in-None.is
 
-preview_graph_requires : tie.Need-preview-graph-requires
+preview_graph_requires : tie.Need-preview_graph-requires
 preview_graph_requires c κs =
-    let m = passed c.before.before in
-    let s = m.before.before in
-    accepts s.args.config (found m s.pre.0 s.pre.1 s.pre.2).decreases (pass c)
+    let m = passed c.before in
+    let s = m in
+    accepts s.args.config (found m s.requires.0 s.requires.1 s.requires.2).measured (pass c)
 
-returns : tie.Need-returns
+returns : tie.Need-returns-in-Refused
 returns c q lent e =
-    let a = c.before.before.before.args in
-    refused q a.config a.k _ (network_no q a.config _ (network_refused q lent e _ c.before.extent.given.1))
+    let a = c.args in
+    refused q a.config a.k _ (network_no q a.config _ (network_refused q lent e _ c.in-Refused.is))
 
-returns_2 : tie.Need-returns-2
+returns_2 : tie.Need-returns-in-Number
 returns_2 c q lent e =
-    let at = c.before.before.before in
-    let m = passed at in
-    let a = m.before.before.args in
+    let at = c in
+    let m = passed c.before in
+    let a = m.args in
     refused q a.config a.k _
-    (network_yes q a.config (found m q lent e).passes ∙ sym at.config-refusal.ensures ∙ ap refusal_of c.before.refusal.given.1)
+    (network_yes q a.config (found m q lent e).passes ∙ sym at.config_refusal-refusal.ensures ∙ ap refusal_of c.in-Number.is)
 
-returns_3 : tie.Need-returns-3
+returns_3 : tie.Need-returns-in-None
 returns_3 c q lent e =
-    let told = c.before in
-    let m = passed told.before.before in
-    let a = m.before.before.args in
+    let told = c in
+    let m = passed c.before.before in
+    let a = m.args in
     let f = found m q lent e in
-    c.preview-graph.ensures
+    c.preview_graph.ensures
     ∙ ap (λ (g : Given). preview_in g a.k) (f.given a.config)
-    ∙ unrefused q a.config a.k (network_yes q a.config f.passes ∙ pass told)
+    ∙ unrefused q a.config a.k (network_yes q a.config f.passes ∙ pass c.before)
 
 pub preview_network_spec : {M : Type 1} → statement M
 preview_network_spec =

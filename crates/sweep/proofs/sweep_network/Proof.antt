@@ -17,52 +17,52 @@ use Rattle.sweep.proofs.sweep_network.Statement.{statement}
 use Rattle.sweep.proofs.sweep_network.Tie as tie
 
 -- the start, and where the network's questions let it pass
-abbrev start : tie.After-extent2 → tie.Start
-start c = c.before.before.before.before
+abbrev start : tie.In-Of → tie.Start
+start c = c.before.before.before
 
-abbrev passed : tie.After-sweep-refusal → tie.After-extent2
-passed c = c.before.before
+abbrev passed : tie.After-sweep_refusal-refusal → tie.In-Of
+passed c = c.before
 
 -- its questions let it pass
-found : (c : tie.After-extent2) (q : RowsOrTopology) (lent : List ℕ) → let a = (start c).args in network a.extent a.graph.now ≡ network_for q lent →
-    Found q a.graph.now c.extent2.given.0.0 c.extent2.given.0.1.0
-found c q lent e = network_found q lent e _ _ c.extent2.given.1
+found : (c : tie.In-Of) (q : RowsOrTopology) (lent : List ℕ) → let a = (start c).args in network a.extent a.graph.now ≡ network_for q lent →
+    Found q a.graph.now c.in-Of.nodes c.in-Of.diameter
+found c q lent e = network_found q lent e _ _ c.in-Of.is
 
 -- and so do those of the configuration and of the table
-pass : (c : tie.After-enum-told) → let a = (start (passed c.before.before)).args in
+pass : (c : tie.In-None) → let a = (start (passed c.before)).args in
     first_no (sweep_questions a.config (length a.seeds.now) (length a.table.now)) ≡ none
-pass c = sym c.before.before.sweep-refusal.ensures ∙ ap refusal_of c.enum_told.given.1
+pass c = sym c.sweep_refusal-refusal.ensures ∙ ap refusal_of c.in-None.is
 
-sweep_graph_requires : tie.Need-sweep-graph-requires
+sweep_graph_requires : tie.Need-sweep_graph-requires
 sweep_graph_requires c κs =
-    let m = passed c.before.before.before in
+    let m = passed c.before.before in
     let s = start m in
     let a = s.args in
     let yes = both_none (config_questions a.config) (table_questions (length a.seeds.now) (length a.table.now)) (pass c.before) in
     let fits = table_facts (length a.seeds.now) (length a.table.now) yes.1 in
-    record { accepted = accepts a.config (found m s.pre.0 s.pre.1 s.pre.2).decreases yes.0; few = fits.0; room = fits.1 }
+    record { accepted = accepts a.config (found m s.requires.0 s.requires.1 s.requires.2).measured yes.0; few = fits.0; room = fits.1 }
 
-returns : tie.Need-returns
+returns : tie.Need-returns-in-Refused
 returns c q lent e =
-    let a = c.before.before.before.before.before.args in
-    refused q a.config a.seeds.now a.table.now _ (network_refuses q a.config a.seeds.now a.table.now _ (network_refused q lent e _ c.before.extent.given.1))
+    let a = c.args in
+    refused q a.config a.seeds.now a.table.now _ (network_refuses q a.config a.seeds.now a.table.now _ (network_refused q lent e _ c.in-Refused.is))
 
-returns_2 : tie.Need-returns-2
+returns_2 : tie.Need-returns-in-Number
 returns_2 c q lent e =
-    let at = c.before.before.before in
-    let m = passed at in
+    let at = c in
+    let m = passed c.before in
     let a = (start m).args in
     refused q a.config a.seeds.now a.table.now _
-    (network_passes q a.config a.seeds.now a.table.now (found m q lent e).passes ∙ sym at.sweep-refusal.ensures ∙ ap refusal_of c.before.refusal.given.1)
+    (network_passes q a.config a.seeds.now a.table.now (found m q lent e).passes ∙ sym at.sweep_refusal-refusal.ensures ∙ ap refusal_of c.in-Number.is)
 
-returns_3 : tie.Need-returns-3
+returns_3 : tie.Need-returns-in-None
 returns_3 c q lent e =
-    let told = c.before.before.before.before in
-    let m = passed told.before.before in
+    let told = c in
+    let m = passed c.before.before.before.before.before in
     let a = (start m).args in
     let f = found m q lent e in
-    swept_asked q a.config a.seeds.now a.table.now f (network_passes q a.config a.seeds.now a.table.now f.passes ∙ pass told)
-    c.before.before.sweep-graph.ensures
+    swept_asked q a.config a.seeds.now a.table.now f (network_passes q a.config a.seeds.now a.table.now f.passes ∙ pass c.before.before.before.before)
+    c.sweep_graph.ensures
 
 pub sweep_network_spec : {M : Type 1} → statement M
 sweep_network_spec =

@@ -9,9 +9,9 @@ use Rattle.sweep.proofs.sweep_refusal.Tie as tie
 
 returns : tie.Need-returns
 returns c =
-    let a = c.before.before.before.args in
-    c.first-refusal.ensures
-    ∙ ap₂ or_else c.before.before.config-refusal.ensures c.before.table-refusal.ensures
+    let a = c.args in
+    c.first_refusal.ensures
+    ∙ ap₂ or_else c.config_refusal.ensures c.table_refusal.ensures
     ∙ sym (first_of_both (config_questions a.config) (table_questions a.seeds a.table))
 
 pub sweep_refusal_spec : {M : Type 1} → statement M

@@ -5,10 +5,10 @@ use Rattle.sweep.proofs.sweep_rows.Tie as tie
 
 returns : tie.Need-returns
 returns c =
-    let swept = c.before.before in
-    let found = swept.before.before.before in
-    let a = found.before.before.before.before.before.args in
-    swept.sweep-network.ensures (of_rows a.rows.now a.n) _ found.network-of-rows.ensures
+    let swept = c in
+    let found = c in
+    let a = found.args in
+    swept.sweep_network.ensures (of_rows a.rows.now a.n) _ found.network_of_rows-extent.ensures
 
 pub sweep_rows_spec : {M : Type 1} → statement M
 sweep_rows_spec = tie.close (tie.spec (λ c κs. search rules) (λ c κs. search rules) (λ c. search rules) returns)

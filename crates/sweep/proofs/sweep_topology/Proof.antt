@@ -5,10 +5,10 @@ use Rattle.sweep.proofs.sweep_topology.Tie as tie
 
 returns : tie.Need-returns
 returns c =
-    let swept = c.before.before in
-    let found = swept.before.before.before in
-    let a = found.before.before.before.before.args in
-    swept.sweep-network.ensures (of_topology a.topology a.first a.second) _ found.network-of-topology.ensures
+    let swept = c in
+    let found = c in
+    let a = found.args in
+    swept.sweep_network.ensures (of_topology a.topology a.first a.second) _ found.network_of_topology-extent.ensures
 
 pub sweep_topology_spec : {M : Type 1} → statement M
 sweep_topology_spec = tie.close (tie.spec (λ c κs. search rules) (λ c κs. search rules) (λ c. search rules) returns)

@@ -18,56 +18,56 @@ use Rattle.sim.proofs.buffers.write_log.Statement.{statement}
 use Rattle.sim.proofs.buffers.write_log.Tie as tie
 
 -- as many terms are counted as the node has logged, and there is room for them
-module _ (c : tie.After-logged-count) where
+module _ (c : tie.After-logged_count-count) where
   abbrev start : tie.Start
   start = c.before.before.before.before
 
   abbrev set_at : ℕ → ℕ
   set_at = logged_set start.args.states.now
 
-  counted : c.logged-count.result ≡ ones (set_at (first_of start.args.node.0))
-  counted = c.logged-count.ensures ∙ ap (λ (k : ℕ). ones (set_at k)) c.before.place_of.ensures
+  counted : c.logged_count-count.result ≡ ones (set_at (first_of start.args.node.0))
+  counted = c.logged_count-count.ensures ∙ ap (λ (k : ℕ). ones (set_at k)) c.before.place_of-first.ensures
 
-  few : c.logged-count.result ≤ max_terms
-  few = omega (arith, counted, log_room start.pre.0)
+  few : c.logged_count-count.result ≤ max_terms
+  few = omega (arith, counted, log_room start.requires.0)
 
-place_of_requires : tie.Need-place-of-requires
+place_of_requires : tie.Need-place_of-first-requires
 place_of_requires c κs = search rules
 
-logged_count_requires : tie.Need-logged-count-requires
-logged_count_requires c κs = omega (arith, c.place_of.ensures, c.before.before.before.requires.0.fits)
+logged_count_requires : tie.Need-logged_count-count-requires
+logged_count_requires c κs = omega (arith, c.place_of-first.ensures, c.requires.0.fits)
 
-mul_copy_terms : tie.Need-overflow-mul-copy-terms
+mul_copy_terms : tie.Need-overflow_mul-i
 mul_copy_terms c = search rules
 
-copy_terms_requires : tie.Need-copy-terms-requires
+copy_terms_requires : tie.Need-copy_terms-requires
 copy_terms_requires c κs =
-    let n = c.before in
-    let s = start n in
-    (subst⁻¹ (Kept max_terms s.args.states.now) n.before.place_of.ensures s.pre.0, le_of_eq n.logged-count.ensures, omega (arith, s.pre.1, s.pre.2, few n))
+    let n = c in
+    let s = start c.before in
+    (subst⁻¹ (Kept max_terms s.args.states.now) n.place_of-first.ensures s.requires.0, le_of_eq n.logged_count-count.ensures, omega (arith, s.requires.1, s.requires.2, few c.before))
 
-cast_logs : tie.Need-overflow-cast-logs
+cast_logs : tie.Need-overflow_cast-logs
 cast_logs c = omega (arith, few c.before.before.before.before)
 
-add_logs : tie.Need-overflow-add-logs
+add_logs : tie.Need-overflow_add-logs
 add_logs c = search rules
 
-slice_write_logs : tie.Need-slice-write-logs
+slice_write_logs : tie.Need-bounds-logs-i
 slice_write_logs c = search rules
 
-same_length : tie.Need-same-length
+same_length : tie.Need-shape_of-logs
 same_length c = search rules
 
 returns : tie.Need-returns
 returns c =
-    let n = c.before.before.before.before in
-    let s = start n in
+    let n = c in
+    let s = start c.before.before.before.before in
     let a = s.args in
     let i = a.node.0 in
     let terms-are = log_terms_lem a.states.now (first_of i) in
-    let copied = ap₂ (λ (k at : ℕ). tabulate k (term_at a.states.now at)) (counted n) n.before.place_of.ensures ∙ sym terms-are in
-    let count = counted n ∙ sym (length_tabulate (ones (set_at n (first_of i))) (term_at a.states.now (first_of i))) ∙ ap length (sym terms-are) in
-    ap₂ (λ (l : List ℕ) (k : ℕ). set l (log_counts + i) k) (c.before.before.copy-terms.ensures ∙ ap (sets a.logs.now (max_terms * i)) copied) count
+    let copied = ap₂ (λ (k at : ℕ). tabulate k (term_at a.states.now at)) (counted c.before.before.before.before) n.place_of-first.ensures ∙ sym terms-are in
+    let count = counted c.before.before.before.before ∙ sym (length_tabulate (ones (set_at c.before.before.before.before (first_of i))) (term_at a.states.now (first_of i))) ∙ ap length (sym terms-are) in
+    ap₂ (λ (l : List ℕ) (k : ℕ). set l (log_counts + i) k) (c.copy_terms.ensures ∙ ap (sets a.logs.now (max_terms * i)) copied) count
 
 pub write_log_spec : {M : Type 1} → statement M
 write_log_spec =

@@ -10,33 +10,33 @@ use Rattle.sim.proofs.entries.run_network.Statement.{statement}
 use Rattle.sim.proofs.entries.run_network.Tie as tie
 
 -- the start, from where the network is known to pass
-abbrev start : tie.After-extent2 → tie.Start
-start c = c.before.before.before.before.before
+abbrev start : tie.In-Of → tie.Start
+start c = c.before.before.before.before
 
 -- its questions let it pass
-found : (c : tie.After-extent2) (q : RowsOrTopology) (lent : List ℕ) → let a = (start c).args in network a.extent a.graph.now ≡ network_for q lent →
-    Found q a.graph.now c.extent2.given.0.0 c.extent2.given.0.1.0
-found c q lent e = network_found q lent e _ _ c.extent2.given.1
+found : (c : tie.In-Of) (q : RowsOrTopology) (lent : List ℕ) → let a = (start c).args in network a.extent a.graph.now ≡ network_for q lent →
+    Found q a.graph.now c.in-Of.nodes c.in-Of.diameter
+found c q lent e = network_found q lent e _ _ c.in-Of.is
 
-run_graph_requires : tie.Need-run-graph-requires
+run_graph_requires : tie.Need-run_graph-requires
 run_graph_requires c κs =
-    let m = c.before.before.before.before in
-    let pre = (start m).requires in
-    (found m pre.0 pre.1 pre.2).decreases
+    let m = c in
+    let pre = (start c.before.before.before).requires in
+    (found c.before.before.before pre.0 pre.1 pre.2).measured
 
-returns : tie.Need-returns
+returns : tie.Need-returns-in-Refused
 returns c q lent e =
-    let a = c.before.before.before.before.before.before.args in
-    outcome_refused q a.config a.logs.now a.records.now a.snapshots.now _ (network_refused q lent e _ c.before.extent.given.1)
+    let a = c.args in
+    outcome_refused q a.config a.logs.now a.records.now a.snapshots.now _ (network_refused q lent e _ c.in-Refused.is)
 
-returns_2 : tie.Need-returns-2
+returns_2 : tie.Need-returns-in-Of
 returns_2 c q lent e =
-    let r = c.before.before.before.before.before.before in
-    let m = r.before.before.before.before.before in
-    let a = (start m).args in
-    ◌∙◌ {b = run_of_graph a.graph.now m.extent2.given.0.0 m.extent2.given.0.1.0 a.config a.logs.now a.records.now a.snapshots.now}
-    r.run-graph.ensures
-    (outcome_passed q a.config a.logs.now a.records.now a.snapshots.now (found m q lent e))
+    let r = c in
+    let m = c in
+    let a = (start c.before.before.before.before.before.before.before.before.before.before).args in
+    ◌∙◌ {b = run_of_graph a.graph.now m.in-Of.nodes m.in-Of.diameter a.config a.logs.now a.records.now a.snapshots.now}
+    r.run_graph.ensures
+    (outcome_passed q a.config a.logs.now a.records.now a.snapshots.now (found c.before.before.before.before.before.before.before.before.before.before q lent e))
 
 pub run_network_spec : {M : Type 1} → statement M
 run_network_spec =

@@ -5,10 +5,10 @@ use Rattle.sim.proofs.entries.run_topology.Tie as tie
 
 returns : tie.Need-returns
 returns c =
-    let ran = c.before.before.before.before.before.before in
-    let found = ran.before.before.before.before.before in
-    let a = found.before.before.before.before.before.args in
-    ran.run-network.ensures (of_topology a.topology a.first a.second) _ found.network-of-topology.ensures
+    let ran = c in
+    let found = c in
+    let a = found.args in
+    ran.run_network.ensures (of_topology a.topology a.first a.second) _ found.network_of_topology-extent.ensures
 
 pub run_topology_spec : {M : Type 1} → statement M
 run_topology_spec =

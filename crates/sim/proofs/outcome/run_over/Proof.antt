@@ -8,41 +8,41 @@ use Rattle.sim.proofs.outcome.run_over.Statement.{statement}
 use Rattle.sim.proofs.outcome.run_over.Tie as tie
 
 -- the start, from where the run was played
-abbrev start : tie.After-play → tie.Start
+abbrev start : tie.After-play-stopped → tie.Start
 start c = c.before.before.before.before.before.before.before.before.before
 
-play_requires : tie.Need-play-requires
+play_requires : tie.Need-play-stopped-requires
 play_requires c κs =
-    let s = c.before.before.before.before.before.before.before.before in
+    let s = c in
     let ok = s.requires.0.accepted in
     record { accepted = ok; few = omega (arith, ok.proposals); blank = zeros_blank s.args.plan.nodes s.requires.1 }
 
-write_logs_requires : tie.Need-write-logs-requires
+write_logs_requires : tie.Need-write_logs-requires
 write_logs_requires c κs =
-    let at = c.before.before.before.before.before.before in
-    let pre = (start at).requires.0 in
-    (kept_all at.play.ensures.goes.steady, pre.accepted.few, pre.logs_long)
+    let at = c in
+    let pre = (start c.before.before.before.before.before).requires.0 in
+    (kept_all at.play-stopped.ensures.goes.steady, pre.accepted.few, pre.logs_long)
 
-write_records_requires : tie.Need-write-records-requires
+write_records_requires : tie.Need-write_records-requires
 write_records_requires c κs =
-    let at = c.before.before.before.before.before.before.before.before.before.before.before in
-    let few = records_few at.play.ensures.goes.steady.sharing.recording in
-    (few, omega (arith, few, (start at).requires.0.records_long))
+    let at = c in
+    let few = records_few at.play-stopped.ensures.goes.steady.sharing.recording in
+    (few, omega (arith, few, (start c.before.before.before.before.before.before.before.before.before.before).requires.0.records_long))
 
-summary_of_requires : tie.Need-summary-of-requires
+summary_of_requires : tie.Need-summary_of-requires
 summary_of_requires c κs =
-    let at = c.before.before.before.before.before.before.before.before.before.before.before.before.before.before in
-    let ok = (start at).requires.0.accepted in
-    (ok.few, omega (arith, at.play.ensures.goes.few, ok.proposals))
+    let at = c in
+    let ok = (start c.before.before.before.before.before.before.before.before.before.before.before.before.before).requires.0.accepted in
+    (ok.few, omega (arith, at.play-stopped.ensures.goes.few, ok.proposals))
 
 returns : tie.Need-returns
 returns c =
-    let at = c.before.before.before.before.before.before.before.before.before.before.before.before.before.before.before in
-    let a = (start at).args in
+    let at = c in
+    let a = (start c.before.before.before.before.before.before.before.before.before.before.before.before.before.before).args in
     record {
-      buffers = finishes at.play.ensures a.logs.now a.records.now c.summary-of.ensures c.before.before.before.before.before.before.before.before.write-logs.ensures c.before.before.before.write-records.ensures;
-      kept = kept_all at.play.ensures.goes.steady;
-      states = states_are at.play.ensures.goes.shows;
+      buffers = finishes at.play-stopped.ensures a.logs.now a.records.now c.summary_of.ensures c.write_logs.ensures c.write_records.ensures;
+      kept = kept_all at.play-stopped.ensures.goes.steady;
+      states = states_are at.play-stopped.ensures.goes.shows;
     }
 
 pub run_over_spec : {M : Type 1} → statement M

@@ -5,9 +5,9 @@ use borrow.Author.Rules.{rules}
 use Rattle.sim.proofs.outcome.summary_of.Statement.{statement}
 use Rattle.sim.proofs.outcome.summary_of.Tie as tie
 
-mul_t8 : tie.Need-overflow-mul-t8
+mul_t8 : tie.Need-overflow_mul-result
 mul_t8 c =
-    let start = c.before.before.before.before in
+    let start = c in
     omega (arith, mul-le-mul {n₁ = start.args.n} {m₁ = start.args.end.rounds} {n₂ = max_nodes} {m₂ = most_rounds max_terms} start.requires.0 start.requires.1)
 
 returns : tie.Need-returns

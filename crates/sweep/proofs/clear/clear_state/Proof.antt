@@ -5,10 +5,10 @@ use Rattle.sweep.proofs.Clears.{wrote_node, no_term}
 use Rattle.sweep.proofs.clear.clear_state.Statement.{statement}
 use Rattle.sweep.proofs.clear.clear_state.Tie as tie
 
-slice_write_states_2 : tie.Need-slice-write-states-2
+slice_write_states_2 : tie.Need-bounds-states-at-2
 slice_write_states_2 c = simp length-set (omega arith)
 
-slice_write_states_3 : tie.Need-slice-write-states-3
+slice_write_states_3 : tie.Need-bounds-states-at-3
 slice_write_states_3 c = simp length-set (omega arith)
 
 returns : tie.Need-returns
