@@ -1,6 +1,5 @@
 -- Lemmas that several proofs of the crate use.
 pub mod ByteLaws
-pub mod Held
 pub mod InputLaws
 pub mod Orders
 pub mod Sections

@@ -1,6 +1,6 @@
 -- The laws of files and their sections (rule 16.7).
 use Rattle.std.specs.Prelude.{ℕ, ◌+◌, ◌^◌, ◌%◌, ◌<◌, ◌≡◌, true, length, get_or}
-use mathlib.Core.List.{List, [], ◌∷◌, flatten}
+use mathlib.Core.List.{List, [], ◌∷◌}
 use Rattle.config.specs.Limits.{log_size}
 use Rattle.archive.specs.Bytes.{AreBytes}
 use Rattle.archive.specs.Layout.{section_count, offset_size, first_offset, inputs_size, totals_size, record_bytes, snapshot_bytes, layout, section_in, handed_out}
@@ -8,9 +8,9 @@ use Rattle.archive.specs.File.{file_of}
 
 -- five sections that a file can hold: their lengths are the layout's, and each offset has room in its bytes
 pub record Fit (inputs totals records snapshots logs : List ℕ) : Type 0 where
-  pub inputs_size_lem : length inputs ≡ inputs_size
-  pub totals_size_lem : length totals ≡ totals_size
-  pub records_size_lem : length records % record_bytes ≡ 0
+  pub inputs_size : length inputs ≡ inputs_size
+  pub totals_size : length totals ≡ totals_size
+  pub records_size : length records % record_bytes ≡ 0
   pub snapshots_size : length snapshots % snapshot_bytes ≡ 0
   pub logs_size : length logs ≡ log_size
   pub small : first_offset + length (inputs) + length totals + length records + length snapshots + length logs < 256 ^ offset_size

@@ -10,7 +10,7 @@ use config::rate::rate_of;
 use config::{Config, RoundSlots};
 
 // A run of a named topology, as it is asked for.
-#[derive(Drop)]
+#[derive(Clone, Copy)]
 pub struct Inputs {
     pub topology: u64,
     pub first: u64,

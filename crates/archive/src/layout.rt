@@ -7,7 +7,7 @@ use config::limits::{LOG_SIZE, RECORD_SIZE, SNAPSHOT_SIZE};
 use metrics::totals::TOTAL_COUNT;
 
 // Whether a file keeps the layout, or the refusal with its number.
-#[derive(Drop)]
+#[derive(Clone, Copy)]
 pub enum Layout {
     Kept,
     Refused(u64),
@@ -91,6 +91,7 @@ fn lengths_fit(file: &[u8]) -> bool
         & (length_in(file, 4) == LOG_SIZE)
 }
 
+#[tactic(auto, unfolding(crate::specs::Layout::layout))]
 pub fn keeps_layout(file: &[u8]) -> bool
     ensures { result ≡ layout file.now }
 {

@@ -5,7 +5,7 @@ ghost use Rattle.archive.specs.Layout.{layout_of, handed_out, behind};
 use super::layout::{Layout, SECTION_COUNT, layout_of, section_of};
 
 // The file, and the number of the section at hand.
-#[derive(Drop)]
+#[derive(Clone, Copy)]
 pub struct Reader<'a> {
     pub file: &'a [u8],
     pub at: usize,

@@ -1,18 +1,18 @@
 -- The snapshots of a file beside those of a run: what agreeing comes to as more are taken, and of all of them. Assumes nothing.
-use Prim.Native.Nat.{ℕ, zero, suc, ◌+◌, ◌-◌, ◌*◌, ◌/◌, ◌%◌, ◌≤◌, ◌<◌, min}
-use mathlib.Core.Path.{◌≡◌, refl, sym, ap, ap₂, subst, ◌∙◌}
+use Prim.Native.Nat.{ℕ, ◌+◌, ◌-◌, ◌*◌, ◌≤◌, ◌<◌, min}
+use mathlib.Core.Path.{◌≡◌, sym, ap, ap₂, ◌∙◌}
 use mathlib.Core.Bool.{Bool, true, false, ◌&&◌}
-use mathlib.Core.List.{List, [], ◌∷◌, ◌++◌, flatten, append-nil, append_assoc}
+use mathlib.Core.List.{List, [], ◌++◌, flatten, append-nil}
 use mathlib.Core.Logic.{⊎_elim, ◌⊎◌, inl, inr}
 use native.Mathlib.Nat.{div-add-mod'}
 use native.Mathlib.Omega.{arith}
 use lib.Dec.{leb}
 use lib.ListN.{length, take, drop, length-append, length-take}
-use lib.Seq.{take_all, take-nil, take-add, take-take, take-append-le, take-append-add, take-append_seam}
-use borrow.Author.Tests.{le-leb, lt-leb, leb-true, leb-false}
+use lib.Seq.{take_all, take-nil, take-add, take-take, take-append-le, take-append-add}
+use borrow.Author.Tests.{leb-true, leb-false}
 use Rattle.config.specs.Limits.{snapshot_size}
 use Rattle.phy.proofs.Fives.{Fives, flatten_both, length_flat, length_fives, take_flat}
-use Rattle.archive.specs.Bytes.{number_size, numbers_bytes, same_bytes}
+use Rattle.archive.specs.Bytes.{numbers_bytes, same_bytes}
 use Rattle.archive.specs.Layout.{snapshot_bytes, layout, length_in, section_in}
 use Rattle.archive.proofs.ByteLaws.{two, length_numbers, numbers_append, same_append, same_sizes}
 use Rattle.archive.proofs.Orders.{keeps, length_section}

@@ -1,6 +1,6 @@
 -- Whole sections of a file beside what a run leaves. Assumes nothing.
 use Prim.Native.Nat.{ℕ, ◌+◌, ◌*◌, ◌≤◌, ◌<◌}
-use mathlib.Core.Path.{◌≡◌, refl, sym, ap, ap₂, ◌∙◌}
+use mathlib.Core.Path.{◌≡◌, refl, sym, ap₂, ◌∙◌}
 use mathlib.Core.Bool.{Bool, true, false, ◌&&◌}
 use mathlib.Core.List.{List}
 use native.Mathlib.Omega.{arith}
@@ -10,10 +10,10 @@ use Rattle.config.specs.Limits.{record_size, records_size, max_terms}
 use Rattle.pipeline.specs.Round.{Record}
 use Rattle.rules.specs.Entries.{record_numbers}
 use Rattle.rules.proofs.ExactBuffers.{length_numbers}
-use Rattle.archive.specs.Bytes.{number_size, numbers_bytes, same_bytes}
+use Rattle.archive.specs.Bytes.{numbers_bytes, same_bytes}
 use Rattle.archive.specs.Layout.{section_count, first_offset, record_bytes, layout, offset_in, length_in, section_in}
 use Rattle.archive.proofs.ByteLaws.{length_numbers as length_bytes, same_sizes}
-use Rattle.archive.proofs.Orders.{Keeps, keeps, end_inside, length_section}
+use Rattle.archive.proofs.Orders.{keeps, end_inside, length_section}
 
 module _ (file : List ℕ) (kept : layout file ≡ true) where
   pub long : first_offset ≤ length file

@@ -1,6 +1,6 @@
 -- The check against a fresh run of the file's first section, and what passes. Assumes nothing.
 use Prim.Native.Nat.{ℕ}
-use mathlib.Core.Path.{◌≡◌, refl, sym, ap, subst, ◌∙◌}
+use mathlib.Core.Path.{◌≡◌, refl, sym, ap, ◌∙◌}
 use mathlib.Core.Bool.{Bool, true, false, cond, ◌&&◌}
 use mathlib.Core.List.{List}
 use mathlib.Core.Option.{Option, none, some}
@@ -14,16 +14,14 @@ use Rattle.archive.specs.declared.inputs.Inputs.{Inputs}
 use Rattle.archive.specs.Bytes.{AreBytes, numbers_bytes, same_bytes}
 use Rattle.archive.specs.Inputs.{input_numbers}
 use Rattle.archive.specs.Layout.{layout, offset_in, length_in, section_in, broken_layout}
-use Rattle.archive.proofs.ByteLaws.{two, bytes_part, same_eq}
+use Rattle.archive.proofs.ByteLaws.{bytes_part, same_eq}
 use Rattle.archive.proofs.InputLaws.{inputs_again}
 use Rattle.archive.proofs.Orders.{keeps, length_section}
 use Rattle.archive.proofs.Sections.{of_its_sections, same_file}
 use Rattle.archive_writer.specs.Filed.{network_in, made}
-use Rattle.archive_writer.specs.Working.{file_of_run}
 use Rattle.archive_writer.proofs.Filings.{rate_passed}
 use Rattle.archive_writer.proofs.Laws.{sections_fit}
 use Rattle.archive_writer.proofs.Made.{made_run}
-use Rattle.archive_check.specs.declared.Checked.{Checked}
 use Rattle.archive_check.specs.declared.Checked.TheVariants.{Yes, No, Refused}
 use Rattle.archive_check.specs.Again.{gives_again, again_unless, again_for}
 use Rattle.archive_check.specs.Check.{asked_in, stored_in, checked_unless, check_of}

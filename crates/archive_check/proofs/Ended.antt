@@ -1,16 +1,15 @@
 -- A run that was played again to its end gives the file's other sections, or does not. Assumes nothing.
 use Prim.Native.Nat.{ℕ}
-use mathlib.Core.Path.{◌≡◌, refl, sym, ap, ap₂, subst⁻¹, ◌∙◌}
+use mathlib.Core.Path.{◌≡◌, refl, sym, ap, ◌∙◌}
 use mathlib.Core.Bool.{Bool, true, false, ◌&&◌}
 use mathlib.Core.List.{List}
 use lib.Dec.{leb}
 use lib.ListN.{length, replicate}
 use Rattle.config.specs.Limits.{log_size}
-use Rattle.metrics.specs.declared.summary.Summary.{Summary}
 use Rattle.metrics.specs.Totals.{totals}
 use Rattle.pipeline.specs.View.{records_of, states_of}
 use Rattle.rules.specs.Accepted.{Accepted}
-use Rattle.rules.specs.Run.{Given, run}
+use Rattle.rules.specs.Run.{Given}
 use Rattle.rules.specs.Entries.{logs_with, record_numbers}
 use Rattle.rules.proofs.Taken.{fives_run}
 use Rattle.rounds.specs.declared.run.Plan.{Plan}

@@ -1,35 +1,31 @@
 -- A run that is played again beside a file: its first round, one round more, and its ends. Assumes nothing.
-use Prim.Native.Nat.{ℕ, suc, ◌+◌, ◌-◌, ◌*◌, ◌/◌, ◌≤◌, ◌<◌, min}
+use Prim.Native.Nat.{ℕ, ◌+◌, ◌-◌, ◌*◌, ◌≤◌, ◌<◌}
 use mathlib.Core.Path.{◌≡◌, refl, sym, ap, ap₂, subst, subst⁻¹, ◌∙◌}
-use mathlib.Core.Bool.{Bool, true, false, ◌&&◌}
-use mathlib.Core.List.{List, [], ◌++◌, flatten}
+use mathlib.Core.Bool.{Bool, true, false}
+use mathlib.Core.List.{List, flatten}
 use mathlib.Core.Logic.{⊎_elim}
 use native.Mathlib.Omega.{arith}
 use lib.Dec.{eqb}
 use lib.ListN.{length, take, drop, length-append}
 use lib.Seq.{sets, sets-eq, take_all, take-append_seam, drop-append_seam}
 use borrow.Author.Tests.{eqb-true, eqb-false}
-use Rattle.config.specs.Limits.{snapshot_size, extra_rounds, most_rounds}
-use Rattle.phy.specs.declared.slot.Radios.{Radios}
-use Rattle.phy.specs.Slot.{Standing}
+use Rattle.config.specs.Limits.{snapshot_size, most_rounds}
 use Rattle.phy.specs.Snapshots.{snapshot_room, snapshots_with}
-use Rattle.phy.specs.View.{Sound, Stands}
 use Rattle.phy.proofs.Due.{Grown, grown_none}
 use Rattle.phy.proofs.Fives.{Fives, none, fives_behind}
 use Rattle.phy.proofs.Snapshots.{scheduled_anew}
 use Rattle.rules.specs.Accepted.{Accepted}
-use Rattle.rules.specs.RunBounds.{longest}
-use Rattle.rules.specs.Run.{Given, Running, Ended, begin, run, run_round, rounds_from}
+use Rattle.rules.specs.Run.{Given, Running, Ended, begin, run, run_round}
 use Rattle.rules.proofs.Taken.{DueIn, due_begin, due_next, grown_next, few_next, grown_through, fives_next, fives_run, end_in_time}
 use Rattle.rounds.specs.declared.run.Plan.{Plan}
 use Rattle.rounds.specs.declared.run.Run.{Run}
 use Rattle.rounds.specs.declared.run.Next.{Next}
 use Rattle.rounds.specs.declared.run.LastRound.TheVariants.{None}
 use Rattle.rounds.specs.declared.run.Stopped.{Stopped}
-use Rattle.rounds.specs.Going.{planned, settings_of, Workspace, Shows, Steady, Going, MovesOn, Underway, NewRun}
+use Rattle.rounds.specs.Going.{planned, Workspace, Shows, Steady, Going, MovesOn, Underway, NewRun}
 use Rattle.rounds.proofs.Underway.{underway_new, same_size, limit_is, run_is, goes_on}
 use Rattle.archive.specs.Bytes.{numbers_bytes, same_bytes}
-use Rattle.archive.specs.Layout.{snapshot_bytes, layout, section_in}
+use Rattle.archive.specs.Layout.{snapshot_bytes, section_in}
 use Rattle.archive.proofs.ByteLaws.{two}
 use Rattle.archive_check.specs.Check.{stored_in}
 use Rattle.archive_check.specs.Working.{taken, agrees, shots_in, CanReplay, Replayed·Alike}

@@ -1,5 +1,5 @@
 -- The laws of the check and the writer (rule 16.7).
-use Rattle.std.specs.Prelude.{ℕ, ◌≤◌, ◌<◌, ◌≡◌, true, cond, List, [], length, get_or, take}
+use Rattle.std.specs.Prelude.{ℕ, ◌≤◌, ◌<◌, ◌≡◌, true, List, [], length, get_or, take}
 use Rattle.std.proofs.Math.Option.{none}
 use Rattle.std.proofs.lemmas.List.Edits.{sets}
 use Rattle.config.specs.Limits.{records_size, log_size}
@@ -13,7 +13,7 @@ use Rattle.archive.specs.Inputs.{Fitting}
 use Rattle.archive.specs.Layout.{section_count, layout, handed_out}
 use Rattle.archive_writer.specs.declared.Written.TheVariants.{Filed}
 use Rattle.archive_writer.specs.Filed.{network_in, sections_of, blank_outcome, made}
-use Rattle.archive_writer.specs.Filing.{Filing, filing_for}
+use Rattle.archive_writer.specs.Filing.{filing_for}
 use Rattle.archive_check.specs.declared.Checked.TheVariants.{Yes}
 use Rattle.archive_check.specs.Check.{asked_in, stored_in, check_of}
 use Rattle.archive_check.specs.Again.{again_for}

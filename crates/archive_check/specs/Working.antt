@@ -2,7 +2,7 @@
 use Rattle.std.specs.Prelude.{ℕ, ◌-◌, ◌*◌, ◌≤◌, min, ◌≡◌, Bool, true, false, length, take}
 use mathlib.Core.List.{List, flatten}
 use Rattle.config.specs.Limits.{snapshot_size, most_rounds}
-use Rattle.rules.specs.Run.{Given, run}
+use Rattle.rules.specs.Run.{run}
 use Rattle.rules.specs.RunBounds.{longest}
 use Rattle.rounds.specs.declared.run.Plan.{Plan}
 use Rattle.rounds.specs.declared.run.Stopped.{Stopped}

@@ -1,4 +1,6 @@
 // The check of an archive file: whether its first section, run afresh, gives the other four.
+#![tactic(auto)]
+
 mod again;
 mod rounds_again;
 
@@ -19,7 +21,7 @@ use rules::networks::{Extent, network_of_topology};
 use rules::questions::{Refusal, config_refusal};
 
 // What the check answers: yes, no, or the refusal with its number.
-#[derive(Drop)]
+#[derive(Clone, Copy)]
 pub enum Checked {
     Yes,
     No,

@@ -16,7 +16,7 @@ use random::draws::STREAM_SIZE;
 use rounds::run::{LastRound, Plan, Stopped, new_run, next_round};
 
 // A run that was played again: it has stopped, and each snapshot that the file has of it is the run's own; or one differs.
-#[derive(Drop)]
+#[derive(Clone, Copy)]
 pub enum Replayed {
     Alike(Stopped),
     Differs,

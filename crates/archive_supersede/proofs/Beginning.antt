@@ -8,7 +8,7 @@ use native.Mathlib.Omega.{arith}
 use borrow.Author.Tests.{ltb-true, ltb-false}
 use lib.Dec.{ltb}
 use Rattle.network.proofs.Sets.{two}
-use Rattle.protocol.specs.Growth.{Extends}
+use Rattle.protocol.specs.Growth.{Continues}
 use Rattle.pipeline.specs.Round.{Record}
 use Rattle.rules.specs.LargerLimit.{limited_config}
 use Rattle.rules.specs.Run.{run}
@@ -46,7 +46,7 @@ passed_records file e =
     ∙ file_section (sections_fit (asked_in file) p.accepted (stored_in file)) records_section (omega arith)
 
 -- what records begin with, their bytes begin with
-bytes_extend : (rs more : List Record) → Extends rs more → Extends (numbers_bytes (record_numbers rs)) (numbers_bytes (record_numbers more))
+bytes_extend : (rs more : List Record) → Continues rs more → Continues (numbers_bytes (record_numbers rs)) (numbers_bytes (record_numbers more))
 bytes_extend rs more e = (
   numbers_bytes (record_numbers e.0),
   ap (λ (l : List Record). numbers_bytes (record_numbers l)) e.1
@@ -81,19 +81,19 @@ module _ (file other : List ℕ) (agree : other_fields file ≡ other_fields oth
       )
 
   -- the one with the larger limit has the records of the other, and then perhaps more
-  records_extend : check_of file ≡ Yes → check_of other ≡ Yes → limit_in file ≤ limit_in other → Extends (records_in file) (records_in other)
+  records_extend : check_of file ≡ Yes → check_of other ≡ Yes → limit_in file ≤ limit_in other → Continues (records_in file) (records_in other)
   records_extend e f h =
       let x : Inputs = asked_in file in
       let on = larger_limit_for (network_in x) x.config (limit_in other) h in
-      subst⁻¹ (λ (l : List ℕ). Extends l (records_in other)) (passed_records file e)
-      (subst⁻¹ (Extends (records_of x)) (passed_records other f ∙ ap records_of asked_limited) (bytes_extend _ _ on.records))
+      subst⁻¹ (λ (l : List ℕ). Continues l (records_in other)) (passed_records file e)
+      (subst⁻¹ (Continues (records_of x)) (passed_records other f ∙ ap records_of asked_limited) (bytes_extend _ _ on.records))
 
 pub records_begin : RecordsBegin
 unfolding superseding_part
 records_begin first second e f = ⊎_elim agreeing differing (two (same_bytes (other_fields first.now) (other_fields second.now)))
   where
     Begins : Superseding → Type 0
-    Begins w = Extends (other_records w first.now second.now) (part_as w first second).bytes
+    Begins w = Continues (other_records w first.now second.now) (part_as w first second).bytes
 
     differing : same_bytes (other_fields first.now) (other_fields second.now) ≡ false → Begins (which_supersedes first.now second.now)
     differing d = subst Begins (fields_differ_lem first.now second.now (kept_yes first.now e) (kept_yes second.now f) d) ([], refl)

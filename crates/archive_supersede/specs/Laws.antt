@@ -1,7 +1,7 @@
 -- The law of two filed runs (rules 12.11 and 17.5).
 use Rattle.std.specs.Prelude.{ℕ, ◌≡◌, List, []}
 use Rattle.std.specs.Borrow.{Bor}
-use Rattle.protocol.specs.Growth.{Extends}
+use Rattle.protocol.specs.Growth.{Continues}
 use Rattle.archive.specs.Layout.{records_section, section_in}
 use Rattle.archive_check.specs.declared.Checked.TheVariants.{Yes}
 use Rattle.archive_check.specs.Check.{check_of}
@@ -22,4 +22,4 @@ other_records (Refused k) first second = []
 abbrev pub RecordsBegin : Type 0
 RecordsBegin =
     (first second : Bor (List ℕ)) → check_of first.now ≡ Yes → check_of second.now ≡ Yes →
-    Extends (other_records (which_supersedes first.now second.now) first.now second.now) (superseding_part first second).bytes
+    Continues (other_records (which_supersedes first.now second.now) first.now second.now) (superseding_part first second).bytes

@@ -1,5 +1,7 @@
 // Which of two filed runs supersedes the other: of two files that agree in every input field but the slot limit, the one
 // with the larger limit.
+#![tactic(auto)]
+
 ghost use Rattle.std.specs.Prelude.{◌≡◌, true, ◌+◌, ◌≤◌, length};
 ghost use Rattle.archive.specs.Bytes.{same_bytes};
 ghost use Rattle.archive.specs.Layout.{layout};
@@ -10,14 +12,14 @@ use archive::layout::{BROKEN_LAYOUT, INPUT_COUNT, RECORDS, keeps_layout, length_
 use archive::reader::inputs_of;
 
 // A part of a file: where it begins, and how many bytes it has.
-#[derive(Drop)]
+#[derive(Clone, Copy)]
 pub struct Place {
     pub offset: usize,
     pub length: usize,
 }
 
 // Which file supersedes, with the place of its records, or the refusal with its number.
-#[derive(Drop)]
+#[derive(Clone, Copy)]
 pub enum Superseding {
     First(Place),
     Second(Place),

@@ -103,9 +103,9 @@ module _ (x : Inputs) (passes : refusal_for (network_in x) x.config ≡ none) wh
       let records = length_records asked in
       let snapshots = length_snapshots asked room in
       record {
-        inputs_size_lem = length_inputs x;
-        totals_size_lem = length_totals (summary_in asked);
-        records_size_lem = omega arith;
+        inputs_size = length_inputs x;
+        totals_size = length_totals (summary_in asked);
+        records_size = omega arith;
         snapshots_size = omega arith;
         logs_size = length_logs asked;
         small = omega (arith, length_inputs x, length_totals (summary_in asked), length_logs asked, low.few_records, low.few_snapshots);

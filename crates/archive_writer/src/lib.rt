@@ -1,4 +1,6 @@
 // The writer of archive files: runs a named topology into a run's buffers, and files that run into lent bytes.
+#![tactic(auto)]
+
 mod put;
 mod run;
 
@@ -17,7 +19,7 @@ use rules::questions::{Refusal, run_refusal};
 use run::{count_run, file_run};
 
 // What the writer answers: how many bytes the file has, or the refusal with its number.
-#[derive(Drop)]
+#[derive(Clone, Copy)]
 pub enum Written {
     Filed(usize),
     Refused(u64),

@@ -2,7 +2,6 @@ use mathlib.Core.Path.{◌≡◌, sym, ap, ◌∙◌}
 use mathlib.Core.Bool.{true}
 use native.Mathlib.Omega.{arith}
 use borrow.Author.Rules.{rules}
-use borrow.Author.Tests.{not-true, not-false}
 use lib.ListN.{length}
 use Rattle.archive.specs.declared.inputs.Inputs.{Inputs}
 use Rattle.archive.specs.Inputs.{inputs_in}
@@ -15,37 +14,37 @@ use Rattle.archive_check.proofs.check_file.Statement.{statement}
 use Rattle.archive_check.proofs.check_file.Tie as tie
 
 -- the start, from where the layout was looked at
-abbrev start : tie.After-keeps-layout → tie.Start
+abbrev start : tie.After-keeps_layout → tie.Start
 start c = c.before.before
 
-returns : tie.Need-returns
+returns : tie.Need-returns-then-not-keeps_layout
 returns c =
     let k = c.before in
-    sym (check_broken (start k).args.file.now (sym k.keeps-layout.ensures ∙ not-true _ c.if1.true))
+    sym (check_broken (start k).args.file.now (sym k.keeps_layout.ensures ∙ c.if-not-keeps_layout.true))
 
 -- the file keeps the layout, and its first section is handed out
-kept : (c : tie.Else1) → layout (start c.before).args.file.now ≡ true
-kept c = sym c.before.keeps-layout.ensures ∙ not-false _ c.if1.false
+kept : (c : tie.Else-not-keeps_layout) → layout (start c.before).args.file.now ≡ true
+kept c = sym c.before.keeps_layout.ensures ∙ c.if-not-keeps_layout.false
 
-first : (c : tie.After-inputs-of) → c.inputs-of.result.now ≡ section_in (start c.before.before).args.file.now 0
-first c = c.inputs-of.ensures ∙ handed_inputs (start c.before.before).args.file.now (kept c.before)
+first : (c : tie.After-inputs_of) → c.inputs_of.result.now ≡ section_in (start c.before.before).args.file.now 0
+first c = c.inputs_of.ensures ∙ handed_inputs (start c.before.before).args.file.now (kept c.before)
 
-inputs_in_requires : tie.Need-inputs-in-requires
-inputs_in_requires c κs = omega (arith, ap length c.inputs-of.ensures, length_inputs (start c.before.before).args.file.now (kept c.before))
+inputs_in_requires : tie.Need-inputs_in-inputs-requires
+inputs_in_requires c κs = omega (arith, ap length c.inputs_of.ensures, length_inputs (start c.before.before).args.file.now (kept c.before))
 
-check_network_requires : tie.Need-check-network-requires
-check_network_requires c κs = ((_, _, c.before.before.network-of-topology.ensures), kept c.before.before.before.before.before.before)
+check_network_requires : tie.Need-check_network-requires
+check_network_requires c κs = ((_, _, c.before.before.network_of_topology-extent.ensures), kept c.before.before.before.before.before.before)
 
-returns_2 : tie.Need-returns-2
+returns_2 : tie.Need-returns
 returns_2 c =
     let n = c.before.before.before in
     let i = n.before.before in
     let e = i.before.before in
     let k = e.before in
     let file = (start k).args.file.now in
-    c.check-network.ensures _ _ n.network-of-topology.ensures
-    ∙ ap (λ (x : Inputs). again_for (network_in x) x.config file) (i.inputs_in.ensures ∙ ap inputs_in (first i.before))
-    ∙ sym (checks_again file (λ j. (k.before.shared-slice-known.given j).fits) (kept e))
+    c.check_network.ensures _ _ n.network_of_topology-extent.ensures
+    ∙ ap (λ (x : Inputs). again_for (network_in x) x.config file) (i.inputs_in-inputs.ensures ∙ ap inputs_in (first i.before))
+    ∙ sym (checks_again file (λ j. (k.before.shared_slice_known-1.given j).fits) (kept e))
 
 pub check_file_spec : {M : Type 1} → statement M
 check_file_spec =

@@ -1,6 +1,6 @@
 use Prim.Native.Nat.{ℕ}
 use mathlib.Core.Path.{◌≡◌, sym, ap, ◌∙◌}
-use mathlib.Core.Bool.{Bool, cond, true}
+use mathlib.Core.Bool.{Bool, cond}
 use mathlib.Core.List.{List}
 use mathlib.Core.Option.{Option, none, some}
 use borrow.Author.Rules.{rules}
@@ -19,58 +19,54 @@ use Rattle.archive_check.proofs.check_network.Statement.{statement}
 use Rattle.archive_check.proofs.check_network.Tie as tie
 
 -- its questions let it pass
-found : (c : tie.After-extent) (q : RowsOrTopology) (lent : List ℕ) → let a = c.before.before.before.args in network a.extent a.graph.now ≡ network_for q lent →
-    Found q a.graph.now c.extent.given.0.0 c.extent.given.0.1.0
-found c q lent e = network_found q lent e _ _ c.extent.given.1
+found : (c : tie.In-Of) (q : RowsOrTopology) (lent : List ℕ) → network c.args.extent c.args.graph.now ≡ network_for q lent →
+    Found q c.args.graph.now c.in-Of.nodes c.in-Of.diameter
+found c q lent e = network_found q lent e _ _ c.in-Of.is
 
-abbrev passed : tie.After-config-refusal → tie.After-extent
-passed c = c.before.before
+abbrev passed : tie.After-config_refusal-refusal → tie.In-Of
+passed c = c.before
 
 -- the configuration's questions pass
-pass : (c : tie.After-enum-told3) → first_no (config_questions (passed c.before.before).before.before.before.args.config) ≡ none
-pass c = sym c.before.before.config-refusal.ensures ∙ ap refusal_of c.enum-told3.given.1
+pass : (c : tie.In-None) → first_no (config_questions c.args.config) ≡ none
+pass c = sym c.config_refusal-refusal.ensures ∙ ap refusal_of c.in-None.is
 
-gives_again_requires : tie.Need-gives-again-requires
+gives_again_requires : tie.Need-gives_again-requires
 gives_again_requires c κs =
-    let m = passed c.before.before in
-    let s = m.before.before.before in
-    (accepts s.args.config (found m s.pre.0.0 s.pre.0.1 s.pre.0.2).decreases (pass c), s.pre.1)
+    let m = passed c.before in
+    (accepts c.args.config (found m c.requires.0.0 c.requires.0.1 c.requires.0.2).measured (pass c), c.requires.1)
 
 -- a question refuses
 refused : (q : RowsOrTopology) (c : Config) (file : List ℕ) (k : ℕ) → refusal_for q c ≡ some k → No ≡ again_for q c file
 unfolding again_for
 refused q c file k e = ap (λ (o : Option ℕ). again_unless o (given_for q c) file) (sym e)
 
-returns : tie.Need-returns
+returns : tie.Need-returns-in-Refused
 returns c q lent e =
-    let a = c.before.before.before.args in
-    refused q a.config a.file.now _ (network_no q a.config _ (network_refused q lent e _ c.enum_told.given.1))
+    let a = c.args in
+    refused q a.config a.file.now _ (network_no q a.config _ (network_refused q lent e _ c.in-Refused.is))
 
-returns_2 : tie.Need-returns-2
+returns_2 : tie.Need-returns-in-Number
 returns_2 c q lent e =
-    let at = c.before.before in
-    let m = passed at in
-    let a = m.before.before.before.args in
+    let a = c.args in
     refused q a.config a.file.now _
-    (network_yes q a.config (found m q lent e).passes ∙ sym at.config-refusal.ensures ∙ ap refusal_of c.enum-told2.given.1)
+    (network_yes q a.config (found (passed c.before) q lent e).passes ∙ sym c.config_refusal-refusal.ensures ∙ ap refusal_of c.in-Number.is)
 
 -- no question refuses, and the run gives the file's other sections or not
-told : (c : tie.After-gives-again) (q : RowsOrTopology) (lent : List ℕ) → let m = passed c.before.before.before in let a = m.before.before.before.args in
-    network a.extent a.graph.now ≡ network_for q lent → cond c.gives-again.result Yes No ≡ again_for q a.config a.file.now
+told : (c : tie.After-gives_again) (q : RowsOrTopology) (lent : List ℕ) → let a = c.args in
+    network a.extent a.graph.now ≡ network_for q lent → cond c.gives_again.result Yes No ≡ again_for q a.config a.file.now
 unfolding again_for
 told c q lent e =
-    let m = passed c.before.before.before in
-    let a = m.before.before.before.args in
-    let f = found m q lent e in
+    let a = c.args in
+    let f = found (passed c.before.before) q lent e in
     let yes : refusal_for q a.config ≡ none = network_yes q a.config f.passes ∙ pass c.before in
-    ap (λ (b : Bool). cond b Yes No) (c.gives-again.ensures ∙ ap (λ (g : Given). gives_again g a.file.now) (f.given a.config))
+    ap (λ (b : Bool). cond b Yes No) (c.gives_again.ensures ∙ ap (λ (g : Given). gives_again g a.file.now) (f.given a.config))
     ∙ ap (λ (o : Option ℕ). again_unless o (given_for q a.config) a.file.now) (sym yes)
 
-returns_3 : tie.Need-returns-3
-returns_3 c q lent e = ap (λ (b : Bool). cond b Yes No) (sym c.if1.true) ∙ told c.before q lent e
+returns_3 : tie.Need-returns-then-gives_again
+returns_3 c q lent e = ap (λ (b : Bool). cond b Yes No) (sym c.if-gives_again.true) ∙ told c.before q lent e
 
-returns_4 : tie.Need-returns-4
-returns_4 c q lent e = ap (λ (b : Bool). cond b Yes No) (sym c.if1.false) ∙ told c.before q lent e
+returns_4 : tie.Need-returns-else-gives_again
+returns_4 c q lent e = ap (λ (b : Bool). cond b Yes No) (sym c.if-gives_again.false) ∙ told c.before q lent e
 
 pub check_network_spec : {M : Type 1} → statement M
 check_network_spec =

@@ -7,54 +7,34 @@ use Rattle.archive_supersede.proofs.Pairs.{Inside, place_inside}
 use Rattle.archive_supersede.proofs.supersede.Statement.{statement}
 use Rattle.archive_supersede.proofs.supersede.Tie as tie
 
--- the start, from where it was asked which file supersedes
-abbrev start : tie.After-which-supersedes → tie.Start
-start c = c.before.before.before
-
 -- which one
-abbrev which : tie.After-which-supersedes → Superseding
-which c = which_supersedes (start c).args.first.now (start c).args.second.now
+abbrev which : tie.After-which_supersedes → Superseding
+which c = which_supersedes c.args.first.now c.args.second.now
 
 -- in each arm
-first_chosen : (c : tie.After-place) → which c.before.before ≡ First c.place.given.0.0
-first_chosen c = sym c.before.before.which-supersedes.ensures ∙ c.place.given.1
+first_chosen : (c : tie.In-First) → which c.before ≡ First c.in-First.place
+first_chosen c = sym c.which_supersedes.ensures ∙ c.in-First.is
 
-second_chosen : (c : tie.After-place2) → which c.before.before ≡ Second c.place2.given.0.0
-second_chosen c = sym c.before.before.which-supersedes.ensures ∙ c.place2.given.1
+second_chosen : (c : tie.In-Second) → which c.before ≡ Second c.in-Second.place
+second_chosen c = sym c.which_supersedes.ensures ∙ c.in-Second.is
 
-part_at_requires : tie.Need-part-at-requires
-part_at_requires c κs =
-    let p = c.before in
-    let s = start p.before.before in
-    subst (Inside s.args.first.now s.args.second.now) (first_chosen p) (place_inside s.args.first.now s.args.second.now)
+part_at_requires : tie.Need-part_at-requires
+part_at_requires c κs = subst (Inside c.args.first.now c.args.second.now) (first_chosen c) (place_inside c.args.first.now c.args.second.now)
 
-part_at_requires_2 : tie.Need-part-at-requires-2
-part_at_requires_2 c κs =
-    let p = c.before in
-    let s = start p.before.before in
-    subst (Inside s.args.first.now s.args.second.now) (second_chosen p) (place_inside s.args.first.now s.args.second.now)
+part_at_requires_2 : tie.Need-part_at-requires-in-Second
+part_at_requires_2 c κs = subst (Inside c.args.first.now c.args.second.now) (second_chosen c) (place_inside c.args.first.now c.args.second.now)
 
-returns : tie.Need-returns
+returns : tie.Need-returns-in-First
 unfolding superseding_part
-returns c =
-    let p = c.before.before in
-    let s = start p.before.before in
-    c.part_at.ensures ∙ ap (λ (w : Superseding). part_as w s.args.first s.args.second) (sym (first_chosen p))
+returns c = c.part_at.ensures ∙ ap (λ (w : Superseding). part_as w c.args.first c.args.second) (sym (first_chosen c.before))
 
-returns_2 : tie.Need-returns-2
+returns_2 : tie.Need-returns-in-Second
 unfolding superseding_part
-returns_2 c =
-    let p = c.before.before in
-    let s = start p.before.before in
-    c.part-at2.ensures ∙ ap (λ (w : Superseding). part_as w s.args.first s.args.second) (sym (second_chosen p))
+returns_2 c = c.part_at-in-Second.ensures ∙ ap (λ (w : Superseding). part_as w c.args.first c.args.second) (sym (second_chosen c.before))
 
-returns_3 : tie.Need-returns-3
+returns_3 : tie.Need-returns-in-Refused
 unfolding superseding_part
-returns_3 c =
-    let e = c.before in
-    let w = e.before.before in
-    let s = start w in
-    ap (λ (w : Superseding). part_as w s.args.first s.args.second) (sym e.enum_told.given.1 ∙ w.which-supersedes.ensures)
+returns_3 c = ap (λ (w : Superseding). part_as w c.args.first c.args.second) (sym c.in-Refused.is ∙ c.which_supersedes.ensures)
 
 pub supersede_spec : {M : Type 1} → statement M
 supersede_spec =

@@ -1,7 +1,6 @@
 use mathlib.Core.Path.{◌≡◌, sym, ap, ◌∙◌}
 use mathlib.Core.Bool.{true}
 use borrow.Author.Rules.{rules}
-use borrow.Author.Tests.{not-true, not-false}
 use native.Mathlib.Omega.{arith}
 use Rattle.archive.specs.Layout.{layout}
 use Rattle.archive_supersede.specs.declared.Superseding.TheVariants.{First, Second}
@@ -10,64 +9,64 @@ use Rattle.archive_supersede.proofs.which_supersedes.Statement.{statement}
 use Rattle.archive_supersede.proofs.which_supersedes.Tie as tie
 
 -- the start, and the first file keeps the layout
-abbrev start : tie.After-keeps-layout → tie.Start
+abbrev start : tie.After-keeps_layout → tie.Start
 start c = c.before.before.before
 
-first_kept : (c : tie.Else1) → layout (start c.before).args.first.now ≡ true
-first_kept c = sym c.before.keeps-layout.ensures ∙ not-false _ c.if1.false
+first_kept : (c : tie.Else-not-keeps_layout) → layout (start c.before).args.first.now ≡ true
+first_kept c = sym c.before.keeps_layout.ensures ∙ c.if-not-keeps_layout.false
 
-returns : tie.Need-returns
+returns : tie.Need-returns-then-not-keeps_layout
 returns c =
     let k = c.before in
-    first_broken (start k).args.first.now (start k).args.second.now (sym k.keeps-layout.ensures ∙ not-true _ c.if1.true)
+    first_broken (start k).args.first.now (start k).args.second.now (sym k.keeps_layout.ensures ∙ c.if-not-keeps_layout.true)
 
-returns_2 : tie.Need-returns-2
+returns_2 : tie.Need-returns-then-not-keeps_layout-2
 returns_2 c =
     let k = c.before in
     let s = start k.before.before in
-    second_broken s.args.first.now s.args.second.now (first_kept k.before) (sym k.keeps-layout2.ensures ∙ not-true _ c.if2.true)
+    second_broken s.args.first.now s.args.second.now (first_kept k.before) (sym k.keeps_layout-2.ensures ∙ c.if-not-keeps_layout-2.true)
 
 -- and so does the second
-second_kept : (c : tie.Else2) → layout (start c.before.before.before).args.second.now ≡ true
-second_kept c = sym c.before.keeps-layout2.ensures ∙ not-false _ c.if2.false
+second_kept : (c : tie.Else-not-keeps_layout-2) → layout (start c.before.before.before).args.second.now ≡ true
+second_kept c = sym c.before.keeps_layout-2.ensures ∙ c.if-not-keeps_layout-2.false
 
-same_other_fields_requires : tie.Need-same-other-fields-requires
+same_other_fields_requires : tie.Need-same_other_fields-requires
 same_other_fields_requires c κs = (first_kept c.before.before, second_kept c)
 
-returns_3 : tie.Need-returns-3
+returns_3 : tie.Need-returns-then-not-same_other_fields
 returns_3 c =
     let f = c.before in
     let k = f.before in
     let s = start k.before.before.before in
     fields_differ_lem s.args.first.now s.args.second.now (first_kept k.before.before) (second_kept k)
-    (sym f.same-other-fields.ensures ∙ not-true _ c.if3.true)
+    (sym f.same_other_fields.ensures ∙ c.if-not-same_other_fields.true)
 
 -- no question refuses the pair
-abbrev start3 : tie.Else3 → tie.Start
+abbrev start3 : tie.Else-not-same_other_fields → tie.Start
 start3 c = start c.before.before.before.before.before
 
-paired : (c : tie.Else3) → Paired (start3 c).args.first.now (start3 c).args.second.now
+paired : (c : tie.Else-not-same_other_fields) → Paired (start3 c).args.first.now (start3 c).args.second.now
 paired c =
     let k = c.before.before in
     record {
       first_kept = first_kept k.before.before;
       second_kept = second_kept k;
-      agree = sym c.before.same-other-fields.ensures ∙ not-false _ c.if3.false;
+      agree = sym c.before.same_other_fields.ensures ∙ c.if-not-same_other_fields.false;
     }
 
-returns_4 : tie.Need-returns-4
+returns_4 : tie.Need-returns-then-limit_in
 returns_4 c =
     let l = c.before.before in
     let e = l.before.before in
-    ap Second c.records-place.ensures
-    ∙ second_supersedes _ _ (paired e) (omega (arith, c.before.if4.true, l.before.limit-in.ensures, l.limit-in2.ensures))
+    ap Second c.records_place.ensures
+    ∙ second_supersedes _ _ (paired e) (omega (arith, c.before.if-limit_in.true, l.before.limit_in.ensures, l.limit_in-2.ensures))
 
-returns_5 : tie.Need-returns-5
+returns_5 : tie.Need-returns-else-limit_in
 returns_5 c =
     let l = c.before.before in
     let e = l.before.before in
-    ap First c.records-place2.ensures
-    ∙ first_supersedes _ _ (paired e) (omega (arith, c.before.if4.false, l.before.limit-in.ensures, l.limit-in2.ensures))
+    ap First c.records_place-else-limit_in.ensures
+    ∙ first_supersedes _ _ (paired e) (omega (arith, c.before.if-limit_in.false, l.before.limit_in.ensures, l.limit_in-2.ensures))
 
 pub which_supersedes_spec : {M : Type 1} → statement M
 which_supersedes_spec =

@@ -2,70 +2,58 @@ use mathlib.Core.Path.{◌≡◌, refl, sym, ap, ◌∙◌}
 use mathlib.Core.Option.{none}
 use native.Mathlib.Omega.{arith}
 use borrow.Author.Rules.{rules}
-use borrow.Author.Tests.{leb-true, not-true, not-false}
+use borrow.Author.Tests.{leb-true}
 use lib.ListN.{length}
 use Rattle.network.specs.Questions.{first_no}
 use Rattle.rules.specs.Questions.{run_questions}
 use Rattle.rules.specs.Answers.{refusal_of}
-use Rattle.rules.proofs.Found.{Found, network_found}
+use Rattle.rules.proofs.Found.{network_found}
 use Rattle.archive_writer.specs.Filed.{network_in}
 use Rattle.archive_writer.proofs.Filings.{run_refuses, long, rate_is, counts, too_short, was_filed}
 use Rattle.archive_writer.proofs.file_graph.Statement.{statement}
 use Rattle.archive_writer.proofs.file_graph.Tie as tie
 
--- the start, from where the questions were asked
-abbrev start : tie.After-run-refusal → tie.Start
-start c = c.before.before.before.before.before.before
-
--- the network that the inputs name was found
-found : (s : tie.Start) → Found (network_in s.args.inputs) s.args.graph.now s.args.nodes s.args.diameter
-found s = network_found (network_in s.args.inputs) s.requires.0 s.requires.1 _ _ refl
-
--- every question of the run is answered "yes"
-passed : (c : tie.After-enum-told) → let a = (start c.before.before).args in first_no (run_questions a.inputs.config (length a.logs.now) (length a.records.now)) ≡ none
-passed c = sym c.before.before.run-refusal.ensures ∙ ap refusal_of c.enum_told.given.1
-
+-- with the network that the inputs name found, every question of the run is answered "yes"
 fits_requires : tie.Need-fits-requires
 fits_requires c κs =
-    let s = start c.before.before in
-    let a = s.args in
-    (counts a.inputs a.logs.now a.records.now a.snapshots.now a.file.now (found s) (passed c), omega arith)
+    let a = c.args in
+    let found = network_found (network_in a.inputs) c.requires.0 c.requires.1 a.nodes a.diameter refl in
+    let passed : first_no (run_questions a.inputs.config (length a.logs.now) (length a.records.now)) ≡ none = sym c.run_refusal-refusal.ensures ∙ ap refusal_of c.in-None.is in
+    (counts a.inputs a.logs.now a.records.now a.snapshots.now a.file.now found passed, omega arith)
 
-returns : tie.Need-returns
+returns : tie.Need-returns-then-not-fits
 returns c =
-    let s = start c.before.before.before.before in
-    let a = s.args in
-    too_short a.inputs a.logs.now a.records.now a.snapshots.now a.file.now (found s) (passed c.before.before) (sym c.before.fits2.ensures ∙ not-true _ c.if1.true)
+    let a = c.args in
+    let found = network_found (network_in a.inputs) c.requires.0 c.requires.1 a.nodes a.diameter refl in
+    let passed : first_no (run_questions a.inputs.config (length a.logs.now) (length a.records.now)) ≡ none = sym c.run_refusal-refusal.ensures ∙ ap refusal_of c.in-None.is in
+    too_short a.inputs a.logs.now a.records.now a.snapshots.now a.file.now found passed (sym c.fits.ensures ∙ c.if-not-fits.true)
 
-file_run_requires : tie.Need-file-run-requires
+file_run_requires : tie.Need-file_run-requires
 file_run_requires c κs =
-    let told = c.before.before.before.before.before.before in
-    let s = start told.before.before in
-    let a = s.args in
-    let room = long a.inputs a.logs.now a.records.now a.snapshots.now a.file.now (found s) (passed told) in
+    let a = c.args in
+    let found = network_found (network_in a.inputs) c.requires.0 c.requires.1 a.nodes a.diameter refl in
+    let passed : first_no (run_questions a.inputs.config (length a.logs.now) (length a.records.now)) ≡ none = sym c.run_refusal-refusal.ensures ∙ ap refusal_of c.in-None.is in
+    let room = long a.inputs a.logs.now a.records.now a.snapshots.now a.file.now found passed in
     record {
-      counts = counts a.inputs a.logs.now a.records.now a.snapshots.now a.file.now (found s) (passed told);
-      rate = rate_is a.inputs a.logs.now a.records.now a.snapshots.now a.file.now (found s) (passed told);
+      counts = counts a.inputs a.logs.now a.records.now a.snapshots.now a.file.now found passed;
+      rate = rate_is a.inputs a.logs.now a.records.now a.snapshots.now a.file.now found passed;
       logs_long = room.for_logs;
       records_long = room.for_records;
-      file_long = leb-true _ _ (sym c.before.before.before.before.before.fits2.ensures ∙ not-false _ c.before.before.before.before.if1.false);
+      file_long = leb-true _ _ (sym c.fits.ensures ∙ c.if-not-fits.false);
     }
 
-returns_2 : tie.Need-returns-2
+returns_2 : tie.Need-returns-in-Number
 returns_2 c =
-    let at = c.before.before.before in
-    let s = start at in
-    let a = s.args in
-    run_refuses a.inputs a.logs.now a.records.now a.snapshots.now a.file.now (found s) _
-    (sym at.run-refusal.ensures ∙ ap refusal_of c.before.refusal.given.1)
+    let a = c.args in
+    let found = network_found (network_in a.inputs) c.requires.0 c.requires.1 a.nodes a.diameter refl in
+    run_refuses a.inputs a.logs.now a.records.now a.snapshots.now a.file.now found _ (sym c.run_refusal-refusal.ensures ∙ ap refusal_of c.in-Number.is)
 
-returns_3 : tie.Need-returns-3
+returns_3 : tie.Need-returns-else-not-fits
 returns_3 c =
-    let told = c.before.before.before.before.before.before.before.before.before.before.before.before.before.before.before in
-    let s = start told.before.before in
-    let a = s.args in
-    was_filed a.inputs a.logs.now a.records.now a.snapshots.now a.file.now (found s) (passed told) (sym c.before.before.before.before.before.before.before.before.before.before.before.before.before.before.fits2.ensures ∙ not-false _ c.before.before.before.before.before.before.before.before.before.before.before.before.before.if1.false)
-    c.before.before.before.before.before.before.before.before.file-run.ensures
+    let a = c.args in
+    let found = network_found (network_in a.inputs) c.requires.0 c.requires.1 a.nodes a.diameter refl in
+    let passed : first_no (run_questions a.inputs.config (length a.logs.now) (length a.records.now)) ≡ none = sym c.run_refusal-refusal.ensures ∙ ap refusal_of c.in-None.is in
+    was_filed a.inputs a.logs.now a.records.now a.snapshots.now a.file.now found passed (sym c.fits.ensures ∙ c.if-not-fits.false) c.file_run.ensures
 
 pub file_graph_spec : {M : Type 1} → statement M
 file_graph_spec =

@@ -8,16 +8,16 @@ use Rattle.archive_writer.proofs.Filings.{network_refuses}
 use Rattle.archive_writer.proofs.file_topology.Statement.{statement}
 use Rattle.archive_writer.proofs.file_topology.Tie as tie
 
-file_graph_requires : tie.Need-file-graph-requires
+file_graph_requires : tie.Need-file_graph-requires
 file_graph_requires c κs =
-    let asked = c.before.before.before.before.before.before.before.before.network-of-topology in
-    (_, ap (λ (e : Extent). network e asked.new.1.1.1.0) (sym c.before.before.before.before.before.before.extent2.given.1) ∙ asked.ensures)
+    let asked = c.network_of_topology-extent in
+    (_, ap (λ (e : Extent). network e asked.new.graph) (sym c.in-Of.is) ∙ asked.ensures)
 
-returns : tie.Need-returns
+returns : tie.Need-returns-in-Refused
 returns c =
-    let a = c.before.before.before.before.before.before.before.before.before.args in
+    let a = c.args in
     network_refuses a.inputs a.logs.now a.records.now a.snapshots.now a.file.now _
-    (network_refused (network_in a.inputs) _ c.before.before.before.network-of-topology.ensures _ c.before.extent.given.1)
+    (network_refused (network_in a.inputs) _ c.network_of_topology-extent.ensures _ c.in-Refused.is)
 
 pub file_topology_spec : {M : Type 1} → statement M
 file_topology_spec =

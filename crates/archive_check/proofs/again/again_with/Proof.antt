@@ -10,7 +10,7 @@ use Rattle.rounds.specs.Going.{planned}
 use Rattle.archive_check.proofs.again.again_with.Statement.{statement}
 use Rattle.archive_check.proofs.again.again_with.Tie as tie
 
-again_over_requires_2 : tie.Need-again-over-requires-2
+again_over_requires_2 : tie.Need-again_over-requires-2
 again_over_requires_2 c κs =
     let s = c.before.before.before.before.before.before.before in
     let ok = s.requires.0 in

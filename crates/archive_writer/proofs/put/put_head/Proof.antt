@@ -8,28 +8,28 @@ use Rattle.archive_writer.proofs.Lays.{head_laid}
 use Rattle.archive_writer.proofs.put.put_head.Statement.{statement}
 use Rattle.archive_writer.proofs.put.put_head.Tie as tie
 
-put_pair_requires : tie.Need-put-pair-requires
+put_pair_requires : tie.Need-put_pair-requires
 put_pair_requires c κs = (omega arith, omega (arith, length-set c.before.before.args.file.now 0 marker))
 
-put_pair_requires_2 : tie.Need-put-pair-requires-2
+put_pair_requires_2 : tie.Need-put_pair-requires-2
 put_pair_requires_2 c κs = (omega arith, omega (arith, length-set c.before.before.before.before.before.before.args.file.now 0 marker))
 
-put_pair_requires_3 : tie.Need-put-pair-requires-3
+put_pair_requires_3 : tie.Need-put_pair-requires-3
 put_pair_requires_3 c κs = (omega arith, omega (arith, length-set c.before.before.before.before.before.before.before.before.before.before.args.file.now 0 marker))
 
-put_pair_requires_4 : tie.Need-put-pair-requires-4
+put_pair_requires_4 : tie.Need-put_pair-requires-4
 put_pair_requires_4 c κs = (omega arith, omega (arith, length-set c.before.before.before.before.before.before.before.before.before.before.before.before.before.before.args.file.now 0 marker))
 
-put_pair_requires_5 : tie.Need-put-pair-requires-5
+put_pair_requires_5 : tie.Need-put_pair-requires-5
 put_pair_requires_5 c κs = (omega arith, omega (arith, length-set c.before.before.before.before.before.before.before.before.before.before.before.before.before.before.before.before.before.before.args.file.now 0 marker))
 
 returns : tie.Need-returns
 returns c =
     let a = c.before.before.before.before.before.before.before.before.before.before.before.before.before.before.before.before.before.before.before.before.before.args in
-    head_laid a.records a.snapshots a.file.now c.before.before.before.before.before.before.before.before.before.before.before.before.before.before.before.before.before.before.put-pair.ensures c.before.before.before.before.before.before.before.before.before.before.before.before.before.before.put-pair2.ensures c.before.before.before.before.before.before.before.before.before.before.put-pair3.ensures c.before.before.before.before.before.before.put-pair4.ensures
-    c.before.before.put-pair5.ensures
+    head_laid a.records a.snapshots a.file.now c.before.before.before.before.before.before.before.before.before.before.before.before.before.before.before.before.before.before.put_pair.ensures c.before.before.before.before.before.before.before.before.before.before.before.before.before.before.put_pair-2.ensures c.before.before.before.before.before.before.before.before.before.before.put_pair-3.ensures c.before.before.before.before.before.before.put_pair-4.ensures
+    c.before.before.put_pair-5.ensures
 
-same_length : tie.Need-same-length
+same_length : tie.Need-shape_of-file
 same_length c = ap length (returns c) ∙ simp length-sets
 
 pub put_head_spec : {M : Type 1} → statement M

@@ -11,8 +11,8 @@ use Rattle.archive_writer.proofs.put.put_inputs.Tie as tie
 
 returns : tie.Need-returns
 returns c =
-    c.before.before.put-numbers.ensures
-    ∙ ap (λ (l : List ℕ). sets c.before.before.before.before.before.before.before.args.file.now first_offset (numbers_bytes (take 10 l))) c.before.before.before.before.before.input-numbers.ensures
+    c.before.before.put_numbers.ensures
+    ∙ ap (λ (l : List ℕ). sets c.before.before.before.before.before.before.before.args.file.now first_offset (numbers_bytes (take 10 l))) c.before.before.before.before.before.input_numbers-numbers.ensures
 
 pub put_inputs_spec : {M : Type 1} → statement M
 put_inputs_spec = tie.close (tie.spec (λ c κs. search rules) (λ c. search rules) (λ c κs. search rules) (λ c. search rules) returns)

@@ -13,8 +13,8 @@ use Rattle.archive_writer.proofs.put.put_pair.Tie as tie
 returns : tie.Need-returns
 returns c =
     let a = c.before.before.before.before.before.before.before.before.before.args in
-    c.before.before.put-bytes2.ensures
-    ∙ ap₂ (λ (l : List ℕ) (n : ℕ). sets l (pair_at a.i + n) (bytes_of offset_size a.size)) c.before.before.before.before.before.before.put-bytes.ensures (sym (length_bytes offset_size a.offset))
+    c.before.before.put_bytes-2.ensures
+    ∙ ap₂ (λ (l : List ℕ) (n : ℕ). sets l (pair_at a.i + n) (bytes_of offset_size a.size)) c.before.before.before.before.before.before.put_bytes.ensures (sym (length_bytes offset_size a.offset))
     ∙ sym (sets_append a.file.now (pair_at a.i) (bytes_of offset_size a.offset) (bytes_of offset_size a.size))
 
 pub put_pair_spec : {M : Type 1} → statement M
