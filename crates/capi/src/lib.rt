@@ -1,5 +1,7 @@
 // The entries for programs in C. Each takes numbers and slices alone, where a slice is a pointer and a length in C, and
 // returns 0 or the number of the refusal, which leaves every slice as it was. `include/ctsim.h` declares them.
+#![tactic(auto)]
+
 pub mod files;
 pub mod sweeps;
 pub mod validities;

@@ -1,5 +1,7 @@
 // Values as the numbers that a call has in C: the configuration, a summary, a ratio, a packet and its text, a sweep, an
 // archive file.
+#![tactic(auto)]
+
 pub mod convert;
 pub mod files;
 pub mod packets;

@@ -11,7 +11,7 @@ use phy::packet::{Data, LastAccepted, Nack, Packet, Piggyback};
 pub const PACKET_SIZE: usize = 13;
 
 // A term that may be missing: whether it is given, 1 or 0, and the term, 0 where it is not.
-#[derive(Drop)]
+#[derive(Clone, Copy)]
 pub struct MaybeTerm {
     pub given: u64,
     pub term: u64,

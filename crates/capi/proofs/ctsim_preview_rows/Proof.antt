@@ -9,23 +9,23 @@ use Rattle.capi.proofs.Returns.{no_packet, no_number, room}
 use Rattle.capi.proofs.ctsim_preview_rows.Statement.{statement}
 use Rattle.capi.proofs.ctsim_preview_rows.Tie as tie
 
-returns : tie.Need-returns
-returns c = no_packet _ _ _ _ c.if1.true
+returns : tie.Need-returns-then-packet-lt-PACKET_SIZE
+returns c = no_packet _ _ _ _ c.if-packet-lt-PACKET_SIZE.true
 
-returns_2 : tie.Need-returns-2
-returns_2 c = no_number _ _ _ _ c.if2.true
+returns_2 : tie.Need-returns-then-part-lt1
+returns_2 c = no_number _ _ _ _ c.if-part-lt1.true
 
-returns_3 : tie.Need-returns-3
+returns_3 : tie.Need-returns
 returns_3 c =
-    let written = c.before.before.before.before in
-    let seen = written.before.before.before in
-    let configured = seen.before in
-    let long = configured.before in
-    let a = long.before.before.before.before.before.args in
-    written.write-preview.ensures
+    let written = c in
+    let seen = c in
+    let configured = c in
+    let long = c in
+    let a = long.args in
+    written.write_preview.ensures
     ∙ ap (λ (x : Preview). preview_result x a.packet.now a.part.now)
-    (seen.preview-rows.ensures ∙ ap (λ (x : Config). preview_for (of_rows a.rows.now a.n) x a.round) configured.config-from.ensures)
-    ∙ room _ _ _ _ long.before.if1.false long.if2.false
+    (seen.preview_rows-answer.ensures ∙ ap (λ (x : Config). preview_for (of_rows a.rows.now a.n) x a.round) configured.config_from-config.ensures)
+    ∙ room _ _ _ _ long.if-packet-lt-PACKET_SIZE.false long.if-part-lt1.false
 
 pub ctsim_preview_rows_spec : {M : Type 1} → statement M
 ctsim_preview_rows_spec =

@@ -3,13 +3,13 @@ use Rattle.capi.proofs.ReturnedFiles.{sections_short, sections_returned}
 use Rattle.capi.proofs.files.ctsim_file_sections.Statement.{statement}
 use Rattle.capi.proofs.files.ctsim_file_sections.Tie as tie
 
-returns : tie.Need-returns
-returns c = sections_short _ _ c.if1.true
+returns : tie.Need-returns-then-parts-lt-PARTS_SIZE
+returns c = sections_short _ _ c.if-parts-lt-PARTS_SIZE.true
 
-returns_2 : tie.Need-returns-2
+returns_2 : tie.Need-returns
 returns_2 c =
-    let told = c.before.before.before in
-    sections_returned _ _ told.before.before.if1.false _ _ _ told.put-parts.ensures c.layout-result.ensures
+    let told = c in
+    sections_returned _ _ told.if-parts-lt-PARTS_SIZE.false _ _ _ told.put_parts.ensures c.layout_result.ensures
 
 pub ctsim_file_sections_spec : {M : Type 1} → statement M
 ctsim_file_sections_spec =

@@ -7,19 +7,19 @@ use Rattle.capi.proofs.ReturnedFiles.{file_short, file_returned}
 use Rattle.capi.proofs.files.ctsim_file_topology.Statement.{statement}
 use Rattle.capi.proofs.files.ctsim_file_topology.Tie as tie
 
-returns : tie.Need-returns
-returns c = file_short _ _ _ _ _ _ c.if1.true
+returns : tie.Need-returns-then-written-lt1
+returns c = file_short _ _ _ _ _ _ c.if-written-lt1.true
 
-returns_2 : tie.Need-returns-2
+returns_2 : tie.Need-returns
 returns_2 c =
-    let written = c.before.before in
-    let filed = written.before.before.before.before.before.before.before.before.before.before in
-    let configured = filed.before.before.before.before.before in
-    let long = configured.before in
-    let a = long.before.before.before.before.before.before.args in
-    file_returned _ _ _ _ _ _ long.if1.false _ _ _ _ _ _ _
-    (filed.file-topology.ensures ∙ ap (λ (x : Config). filing_for (inputs_from a.topology a.first a.second x) a.logs.now a.records.now a.snapshots.now a.file.now) configured.config-from.ensures)
-    written.write-filing.ensures
+    let written = c in
+    let filed = c in
+    let configured = c in
+    let long = c in
+    let a = long.args in
+    file_returned _ _ _ _ _ _ long.if-written-lt1.false _ _ _ _ _ _ _
+    (filed.file_topology-answer.ensures ∙ ap (λ (x : Config). filing_for (inputs_from a.topology a.first a.second x) a.logs.now a.records.now a.snapshots.now a.file.now) configured.config_from-config.ensures)
+    written.write_filing.ensures
 
 pub ctsim_file_topology_spec : {M : Type 1} → statement M
 ctsim_file_topology_spec =

@@ -7,19 +7,19 @@ use Rattle.capi.proofs.Returns.{sweep_short, sweep_returned}
 use Rattle.capi.proofs.sweeps.ctsim_sweep_rows.Statement.{statement}
 use Rattle.capi.proofs.sweeps.ctsim_sweep_rows.Tie as tie
 
-returns : tie.Need-returns
-returns c = sweep_short _ _ _ _ _ c.if1.true
+returns : tie.Need-returns-then-rounds-lt1
+returns c = sweep_short _ _ _ _ _ c.if-rounds-lt1.true
 
-returns_2 : tie.Need-returns-2
+returns_2 : tie.Need-returns
 returns_2 c =
-    let written = c.before.before in
-    let swept = written.before.before.before.before in
-    let configured = swept.before.before in
-    let long = configured.before in
-    let a = long.before.before.before.before.before.args in
-    sweep_returned _ _ _ _ _ long.if1.false _ _ _ _
-    (swept.sweep-rows.ensures ∙ ap (λ (x : Config). sweep_for (of_rows a.rows.now a.n) x a.seeds.now a.table.now) configured.config-from.ensures)
-    written.write-sweep.ensures
+    let written = c in
+    let swept = c in
+    let configured = c in
+    let long = c in
+    let a = long.args in
+    sweep_returned _ _ _ _ _ long.if-rounds-lt1.false _ _ _ _
+    (swept.sweep_rows-answer.ensures ∙ ap (λ (x : Config). sweep_for (of_rows a.rows.now a.n) x a.seeds.now a.table.now) configured.config_from-config.ensures)
+    written.write_sweep.ensures
 
 pub ctsim_sweep_rows_spec : {M : Type 1} → statement M
 ctsim_sweep_rows_spec =

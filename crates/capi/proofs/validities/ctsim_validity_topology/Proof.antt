@@ -7,11 +7,11 @@ use Rattle.capi.proofs.validities.ctsim_validity_topology.Tie as tie
 
 returns : tie.Need-returns
 returns c =
-    let asked = c.before in
-    let configured = asked.before in
-    let a = configured.before.args in
+    let asked = c in
+    let configured = c in
+    let a = configured.args in
     c.number.ensures
-    ∙ ap validity_number (asked.validity-topology.ensures ∙ ap (validity_for (of_topology a.topology a.first a.second)) configured.config-from.ensures)
+    ∙ ap validity_number (asked.validity_topology.ensures ∙ ap (validity_for (of_topology a.topology a.first a.second)) configured.config_from-config.ensures)
 
 pub ctsim_validity_topology_spec : {M : Type 1} → statement M
 ctsim_validity_topology_spec = tie.close (tie.spec (λ c κs. search rules) (λ c κs. search rules) (λ c κs. search rules) returns)

@@ -2,7 +2,7 @@ use borrow.Author.Rules.{rules}
 use Rattle.marshal.proofs.convert.config_from.Statement.{statement}
 use Rattle.marshal.proofs.convert.config_from.Tie as tie
 
-slots_from_requires : tie.Need-slots-from-requires
+slots_from_requires : tie.Need-slots_from-requires
 slots_from_requires c κs = search rules
 
 returns : tie.Need-returns

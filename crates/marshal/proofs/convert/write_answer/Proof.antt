@@ -7,23 +7,23 @@ use borrow.Author.Rules.{rules}
 use Rattle.marshal.proofs.convert.write_answer.Statement.{statement}
 use Rattle.marshal.proofs.convert.write_answer.Tie as tie
 
-enum_known_answer : tie.Need-enum-known-answer
+enum_known_answer : tie.Need-enum_known-answer
 enum_known_answer c = search rules
 
-enum_known_answer_2 : tie.Need-enum-known-answer-2
+enum_known_answer_2 : tie.Need-enum_known-answer-in-Ran-1
 enum_known_answer_2 c = search rules
 
-write_summary_requires : tie.Need-write-summary-requires
+write_summary_requires : tie.Need-write_summary-requires
 write_summary_requires c κs = search rules
 
-returns : tie.Need-returns
-returns c = ap (λ (a : Answer). (result_of a, with_summary a c.before.before.before.before.args.out.now)) (sym c.before.answer.given.1)
+returns : tie.Need-returns-in-Refused
+returns c = ap (λ (a : Answer). (result_of a, with_summary a c.args.out.now)) (sym c.in-Refused.is)
 
-same_length : tie.Need-same-length
+same_length : tie.Need-shape_of-out
 same_length c = search rules
 
-returns_2 : tie.Need-returns-2
-returns_2 c = ap (λ (l : List ℕ). (0, l)) c.before.before.write-summary.ensures ∙ ap (λ (a : Answer). (result_of a, with_summary a c.before.before.before.before.before.before.before.before.args.out.now)) (sym c.before.before.before.before.before.answer2.given.1)
+returns_2 : tie.Need-returns-in-Ran
+returns_2 c = ap (λ (l : List ℕ). (0, l)) c.write_summary.ensures ∙ ap (λ (a : Answer). (result_of a, with_summary a c.args.out.now)) (sym c.in-Ran.is)
 
 pub write_answer_spec : {M : Type 1} → statement M
 write_answer_spec =

@@ -5,11 +5,11 @@ use Rattle.marshal.specs.Files.{filing_result}
 use Rattle.marshal.proofs.files.write_filing.Statement.{statement}
 use Rattle.marshal.proofs.files.write_filing.Tie as tie
 
-returns : tie.Need-returns
-returns c = ap (λ (x : Written). filing_result x c.before.before.before.args.written.now) (sym c.before.answer.given.1)
+returns : tie.Need-returns-in-Refused
+returns c = ap (λ (x : Written). filing_result x c.args.written.now) (sym c.in-Refused.is)
 
-returns_2 : tie.Need-returns-2
-returns_2 c = ap (λ (x : Written). filing_result x c.before.before.before.args.written.now) (sym c.before.answer2.given.1)
+returns_2 : tie.Need-returns-in-Filed
+returns_2 c = ap (λ (x : Written). filing_result x c.args.written.now) (sym c.in-Filed.is)
 
 pub write_filing_spec : {M : Type 1} → statement M
 write_filing_spec =

@@ -11,23 +11,23 @@ use Rattle.marshal.proofs.packets.put_numbers.Statement.{statement}
 use Rattle.marshal.proofs.packets.put_numbers.Tie as tie
 
 -- the start, from where the last number is known
-abbrev start : tie.After-of-data2 → tie.Start
+abbrev start : tie.After-of_data-piggyback_data_term → tie.Start
 start c = c.before.before.before.before.before.before.before
 
 returns : tie.Need-returns
 returns c =
-    let resent = c.before in
-    let again = resent.before in
-    let proposed = again.before in
-    let accepted = proposed.before in
-    let wanted = accepted.before in
+    let resent = c in
+    let again = c in
+    let proposed = c in
+    let accepted = c in
+    let wanted = c in
     let a = (start c).args in
     let p = a.p in
-    let carried = c.of-data2.ensures ∙ ap (λ (x : Data). term_numbers (data_term x)) resent.piggyback-data.ensures in
+    let carried = c.of_data-piggyback_data_term.ensures ∙ ap (λ (x : Data). term_numbers (data_term x)) resent.piggyback_data.ensures in
     λ i.
     sets a.out.now 0
     (p.sender.0 ∷ p.current_term.0 ∷ p.flags_bitmap
-    ∷ wanted.of-nack.ensures i ++ accepted.of-last-accepted.ensures i ++ proposed.of-data.ensures i ++ again.of-piggyback.ensures i ++ carried i)
+    ∷ wanted.of_nack-nack.ensures i ++ accepted.of_last_accepted-last.ensures i ++ proposed.of_data-data.ensures i ++ again.of_piggyback-piggyback_term.ensures i ++ carried i)
 
 pub put_numbers_spec : {M : Type 1} → statement M
 put_numbers_spec =

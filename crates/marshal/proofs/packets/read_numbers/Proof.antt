@@ -8,21 +8,21 @@ use Rattle.marshal.proofs.packets.read_numbers.Tie as tie
 
 returns : tie.Need-returns
 returns c =
-    let again = c.before.before.before in
-    let resent = again.before in
-    let own = resent.before.before.before.before.before in
-    let last = own.before.before.before in
-    let nack = last.before.before.before in
-    let l = nack.before.before.before.before.args.s.now in
-    let carried = again.piggyback-from.ensures ∙ ap (λ (d : Data). piggyback_from (get_or l 9 0) (get_or l 10 0) d) resent.data-from2.ensures in
+    let again = c in
+    let resent = c in
+    let own = c in
+    let last = c in
+    let nack = c in
+    let l = nack.args.s.now in
+    let carried = again.piggyback_from-piggyback.ensures ∙ ap (λ (d : Data). piggyback_from (get_or l 9 0) (get_or l 10 0) d) resent.data_from.ensures in
     λ i.
     record {
       current_term = record { 0 = get_or l 1 0 };
-      last_accepted_term = last.last-accepted-from.ensures i;
+      last_accepted_term = last.last_accepted_from-last_accepted_term.ensures i;
       flags_bitmap = get_or l 2 0;
-      nack_term = nack.nack-from.ensures i;
+      nack_term = nack.nack_from-nack_term.ensures i;
       sender = record { 0 = get_or l 0 0 };
-      proposal_data = own.data-from.ensures i;
+      proposal_data = own.data_from-proposal_data.ensures i;
       piggyback = carried i;
     }
 

@@ -8,19 +8,19 @@ use Rattle.marshal.specs.Previews.{preview_result}
 use Rattle.marshal.proofs.previews.write_preview.Statement.{statement}
 use Rattle.marshal.proofs.previews.write_preview.Tie as tie
 
-returns : tie.Need-returns
+returns : tie.Need-returns-in-Refused
 returns c =
-    let a = c.before.before.before.before.before.args in
-    ap (λ (x : Preview). preview_result x a.packet.now a.part.now) (sym c.before.answer.given.1)
+    let a = c.args in
+    ap (λ (x : Preview). preview_result x a.packet.now a.part.now) (sym c.in-Refused.is)
 
-returns_2 : tie.Need-returns-2
+returns_2 : tie.Need-returns-in-Seen
 returns_2 c =
-    let put = c.before.before in
-    let known = put.before.before.before.before in
-    let a = known.before.before.before.before.args in
-    let part = sets a.part.now 0 (known.answer2.given.0.0.part ∷ []) in
-    ap (λ (l : List ℕ). (0, l, part)) put.put-numbers.ensures
-    ∙ ap (λ (x : Preview). preview_result x a.packet.now a.part.now) (sym known.answer2.given.1)
+    let put = c in
+    let known = c in
+    let a = known.args in
+    let part = sets a.part.now 0 (known.in-Seen.seen.part ∷ []) in
+    ap (λ (l : List ℕ). (0, l, part)) put.put_numbers.ensures
+    ∙ ap (λ (x : Preview). preview_result x a.packet.now a.part.now) (sym known.in-Seen.is)
 
 pub write_preview_spec : {M : Type 1} → statement M
 write_preview_spec =

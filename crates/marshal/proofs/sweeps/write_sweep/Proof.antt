@@ -5,11 +5,11 @@ use Rattle.marshal.specs.Sweeps.{sweep_result}
 use Rattle.marshal.proofs.sweeps.write_sweep.Statement.{statement}
 use Rattle.marshal.proofs.sweeps.write_sweep.Tie as tie
 
-returns : tie.Need-returns
-returns c = ap (λ (x : Sweep). sweep_result x c.before.before.before.args.rounds.now) (sym c.before.answer.given.1)
+returns : tie.Need-returns-in-Refused
+returns c = ap (λ (x : Sweep). sweep_result x c.args.rounds.now) (sym c.in-Refused.is)
 
-returns_2 : tie.Need-returns-2
-returns_2 c = ap (λ (x : Sweep). sweep_result x c.before.before.before.args.rounds.now) (sym c.before.answer2.given.1)
+returns_2 : tie.Need-returns-in-Swept
+returns_2 c = ap (λ (x : Sweep). sweep_result x c.args.rounds.now) (sym c.in-Swept.is)
 
 pub write_sweep_spec : {M : Type 1} → statement M
 write_sweep_spec =

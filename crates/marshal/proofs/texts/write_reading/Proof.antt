@@ -8,19 +8,19 @@ use Rattle.marshal.specs.Texts.{reading_result}
 use Rattle.marshal.proofs.texts.write_reading.Statement.{statement}
 use Rattle.marshal.proofs.texts.write_reading.Tie as tie
 
-returns : tie.Need-returns
+returns : tie.Need-returns-in-Refused
 returns c =
-    let a = c.before.before.before.before.before.args in
-    ap (λ (x : Reading). reading_result x a.packet.now a.flags.now) (sym c.before.answer.given.1)
+    let a = c.args in
+    ap (λ (x : Reading). reading_result x a.packet.now a.flags.now) (sym c.in-Refused.is)
 
-returns_2 : tie.Need-returns-2
+returns_2 : tie.Need-returns-in-Packet
 returns_2 c =
-    let put = c.before.before in
-    let known = put.before.before.before in
-    let a = known.before.before.before.before.args in
-    let flags = sets a.flags.now 0 (known.answer2.given.0.1.0 ∷ []) in
-    ap (λ (l : List ℕ). (0, l, flags)) put.put-numbers.ensures
-    ∙ ap (λ (x : Reading). reading_result x a.packet.now a.flags.now) (sym known.answer2.given.1)
+    let put = c in
+    let known = c in
+    let a = known.args in
+    let flags = sets a.flags.now 0 (known.in-Packet.n ∷ []) in
+    ap (λ (l : List ℕ). (0, l, flags)) put.put_numbers.ensures
+    ∙ ap (λ (x : Reading). reading_result x a.packet.now a.flags.now) (sym known.in-Packet.is)
 
 pub write_reading_spec : {M : Type 1} → statement M
 write_reading_spec =

@@ -22,34 +22,34 @@ module _ (numbers : List ℕ) (n : ℕ) (text out : List ℕ) where
   unfolding written_from
   of_packet e = simp e
 
-returns : tie.Need-returns
+returns : tie.Need-returns-then-not-formed
 returns c =
-    let a = c.before.before.before.before.before.args in
-    sym (unformed a.numbers.now a.flags a.text.now a.written.now (sym c.before.formed.ensures ∙ not-true _ c.if1.true))
+    let a = c.args in
+    sym (unformed a.numbers.now a.flags a.text.now a.written.now (sym c.formed.ensures ∙ c.if-not-formed.true))
 
 -- what was written, and to which buffer
-answer : (c : tie.After-write-packet) →
-    let a = c.before.before.before.before.before.before.before.before.args in
-    written_from a.numbers.now a.flags a.text.now a.written.now ≡ writing_result (c.write-packet.result, c.write-packet.new.1.1.0) a.written.now
+answer : (c : tie.After-write_packet) →
+    let a = c.args in
+    written_from a.numbers.now a.flags a.text.now a.written.now ≡ writing_result (c.write_packet.result, c.write_packet.new.out) a.written.now
 answer c =
-    let read = c.before.before in
-    let passed = read.before in
-    let a = passed.before.before.before.before.before.args in
-    of_packet a.numbers.now a.flags a.text.now a.written.now (sym passed.before.formed.ensures ∙ not-false _ passed.if1.false)
+    let read = c in
+    let passed = c in
+    let a = passed.args in
+    of_packet a.numbers.now a.flags a.text.now a.written.now (sym passed.formed.ensures ∙ passed.if-not-formed.false)
     ∙ ap (λ (w : Writing × List ℕ). writing_result w a.written.now)
-    (ap (λ (p : Packet). writing p a.flags a.text.now) (sym read.read-numbers.ensures) ∙ sym c.write-packet.ensures)
+    (ap (λ (p : Packet). writing p a.flags a.text.now) (sym read.read_numbers.ensures) ∙ sym c.write_packet.ensures)
 
-returns_2 : tie.Need-returns-2
+returns_2 : tie.Need-returns-in-Refused
 returns_2 c =
-    let wrote = c.before.before.before.before.before in
-    let out = wrote.before.before.before.before.before.before.before.before.args.written.now in
-    sym (answer wrote ∙ ap (λ (w : Writing). writing_result (w, wrote.write-packet.new.1.1.0) out) c.before.k.given.1)
+    let wrote = c in
+    let out = wrote.args.written.now in
+    sym (answer c.before.before.before ∙ ap (λ (w : Writing). writing_result (w, wrote.write_packet.new.out) out) c.in-Refused.is)
 
-returns_3 : tie.Need-returns-3
+returns_3 : tie.Need-returns-in-Text
 returns_3 c =
-    let wrote = c.before.before.before.before.before in
-    let out = wrote.before.before.before.before.before.before.before.before.args.written.now in
-    sym (answer wrote ∙ ap (λ (w : Writing). writing_result (w, wrote.write-packet.new.1.1.0) out) c.before.size.given.1)
+    let wrote = c in
+    let out = wrote.args.written.now in
+    sym (answer c.before.before.before ∙ ap (λ (w : Writing). writing_result (w, wrote.write_packet.new.out) out) c.in-Text.is)
 
 pub write_text_spec : {M : Type 1} → statement M
 write_text_spec =
