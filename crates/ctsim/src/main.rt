@@ -1,6 +1,7 @@
 // The program: reads one line, and writes what `program` answers to it. `main` can carry no contract:
 // that it hands over what was read, and writes what it was given, is for a reader to see.
-use libc::STDOUT_FILENO;
+#![tactic(auto)]
+
 use listing::write::LISTING_SIZE;
 use streams::{Input, complain, read_input};
 
@@ -8,15 +9,18 @@ use streams::{Input, complain, read_input};
 // follows.
 const INPUT_SIZE: usize = 4096;
 
-fn main() {
+fn main(rt: HostRuntime) {
     let mut input = [0u8; INPUT_SIZE];
-    let Input::Bytes(n) = read_input(&mut input, true) else {
-        complain(b"ctsim: standard input could not be read\n");
+    let Input::Bytes(n) = read_input(&mut rt.stdin(), &mut input, true) else {
+        complain(&rt.stderr(), b"ctsim: standard input could not be read\n");
         return;
     };
     let mut out = [0u8; LISTING_SIZE];
     let size = program::answer(&input[..n], &mut out);
-    if !io::write_all(STDOUT_FILENO, &out[..size]) {
-        complain(b"ctsim: standard output did not take every byte\n");
+    if rt.write_all(&out[..size]).is_err() {
+        complain(
+            &rt.stderr(),
+            b"ctsim: standard output did not take every byte\n",
+        );
     }
 }

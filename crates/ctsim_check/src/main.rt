@@ -1,12 +1,13 @@
 // The program: reads an archive file, and writes what the check says of it. `main` can carry no contract: that it
 // hands over what was read, and writes what it was given, is for a reader to see.
+#![tactic(auto)]
+
 ghost use Rattle.text.specs.Overlay.{Written};
 ghost use Rattle.listing.specs.Listing.{refusal_most};
 ghost use Rattle.archive_check.specs.Check.{check_of};
 ghost use Rattle.ctsim_check.specs.Verdict.{verdict_text};
 
 use archive_check::{Checked, check_file};
-use libc::STDOUT_FILENO;
 use listing::write::write_refusal;
 use streams::{Input, complain, read_input};
 use text::overlay::put_word;
@@ -17,7 +18,7 @@ const FILE_MOST: usize = 4194304;
 // One byte more is read, where there is one.
 const INPUT_SIZE: usize = FILE_MOST + 1;
 
-// No answer has more bytes: `refusalMost`.
+// No answer has more bytes: `refusal_most`.
 const ANSWER_SIZE: usize = 31;
 
 // Lays what the check says of a file over the start of a buffer, and says how many bytes that has.
@@ -33,23 +34,32 @@ fn answer(file: &[u8], out: &mut [u8]) -> usize
 }
 
 // Checks the file on standard input, which is read into a lent buffer. A file that fills it is too long.
-fn check_input(input: &mut [u8]) {
-    let Input::Bytes(n) = read_input(input, false) else {
-        complain(b"ctsim-check: standard input could not be read\n");
+fn check_input(rt: &HostRuntime, input: &mut [u8]) {
+    let Input::Bytes(n) = read_input(&mut rt.stdin(), input, false) else {
+        complain(
+            &rt.stderr(),
+            b"ctsim-check: standard input could not be read\n",
+        );
         return;
     };
     if input.len() <= n {
-        complain(b"ctsim-check: more than 4194304 bytes were read\n");
+        complain(
+            &rt.stderr(),
+            b"ctsim-check: more than 4194304 bytes were read\n",
+        );
         return;
     }
     let mut out = [0u8; ANSWER_SIZE];
     let size = answer(&input[0..n], &mut out);
-    if !io::write_all(STDOUT_FILENO, &out[0..size]) {
-        complain(b"ctsim-check: standard output did not take every byte\n");
+    if rt.write_all(&out[0..size]).is_err() {
+        complain(
+            &rt.stderr(),
+            b"ctsim-check: standard output did not take every byte\n",
+        );
     }
 }
 
-fn main() {
+fn main(rt: HostRuntime) {
     let mut input = [0u8; INPUT_SIZE];
-    check_input(&mut input);
+    check_input(&rt, &mut input);
 }

@@ -1,5 +1,7 @@
 // The program: reads one line, and writes the archive file of its run, or on standard error the refusal. `main` can
 // carry no contract: that it hands over what was read, and writes what it was given, is for a reader to see.
+#![tactic(auto)]
+
 ghost use Rattle.std.specs.Prelude.{ℕ, ◌≤◌, ◌≡◌, List, length};
 ghost use Rattle.ctsim_file.specs.Filed.{line_filing, filed_for, size_of};
 
@@ -7,7 +9,6 @@ use archive::inputs::Inputs;
 use archive::layout::{FIRST_OFFSET, INPUTS_SIZE, RECORD_BYTES, SNAPSHOT_BYTES, TOTALS_SIZE};
 use archive_writer::{Written, file_topology};
 use config::limits::{LISTED_SIZE, LOG_SIZE, MAX_LISTED, MAX_TERMS, RECORDS_SIZE};
-use libc::{STDERR_FILENO, STDOUT_FILENO};
 use line::configured::config_of;
 use line::read::{Line, Read, read_line};
 use streams::{Input, complain, read_input};
@@ -57,25 +58,31 @@ fn file_input(input: &[u8], file: &mut [u8]) -> Written
 }
 
 // Says on standard error by which number the line is refused.
-fn complain_refused(question: u64) {
-    complain(b"refused ");
-    io::print_decimal(STDERR_FILENO, question);
-    complain(b"\n");
+fn complain_refused(to: &impl Print, question: u64) {
+    complain(to, b"refused ");
+    let _ = to.print(question);
+    complain(to, b"\n");
 }
 
-fn main() {
+fn main(rt: HostRuntime) {
     let mut input = [0u8; INPUT_SIZE];
-    let Input::Bytes(n) = read_input(&mut input, true) else {
-        complain(b"ctsim-file: standard input could not be read\n");
+    let Input::Bytes(n) = read_input(&mut rt.stdin(), &mut input, true) else {
+        complain(
+            &rt.stderr(),
+            b"ctsim-file: standard input could not be read\n",
+        );
         return;
     };
     let mut file = [0u8; FILE_SIZE];
     let answer = file_input(&input[..n], &mut file);
     match answer {
-        Written::Refused(question) => complain_refused(question),
+        Written::Refused(question) => complain_refused(&rt.stderr(), question),
         Written::Filed(size) => {
-            if !io::write_all(STDOUT_FILENO, &file[..size]) {
-                complain(b"ctsim-file: standard output did not take every byte\n");
+            if rt.write_all(&file[..size]).is_err() {
+                complain(
+                    &rt.stderr(),
+                    b"ctsim-file: standard output did not take every byte\n",
+                );
             }
         }
     }

@@ -1,18 +1,17 @@
 // Prints, and counts the places of a buffer that hold the mark.
-use libc::STDOUT_FILENO;
 
-pub fn put(text: &[u8]) {
-    io::write_all(STDOUT_FILENO, text);
+pub fn put(rt: &impl Print, text: &[u8]) {
+    let _ = rt.write_all(text);
 }
 
 // A space and a number.
-pub fn put_number(n: u64) {
-    put(b" ");
-    io::print_decimal(STDOUT_FILENO, n);
+pub fn put_number(rt: &impl Print, n: u64) {
+    put(rt, b" ");
+    let _ = rt.print(n);
 }
 
-pub fn put_end() {
-    put(b"\n");
+pub fn put_end(rt: &impl Print) {
+    put(rt, b"\n");
 }
 
 // How many bytes of a buffer hold the mark.

@@ -6,62 +6,62 @@ use super::made::{
 use archive::layout::{Layout, SECTION_COUNT, put_parts};
 use archive_check::{Checked, check_file};
 use archive_writer::Written;
-use libc::STDOUT_FILENO;
 use line::read::{Line, Read, field, field_start, read_line};
+use streams::put;
 
 // Offset and length of each section.
 const PARTS: usize = 2 * SECTION_COUNT;
 
-fn put_verdict(verdict: Checked) {
+fn put_verdict(rt: &impl Print, verdict: Checked) {
     match verdict {
         Checked::Yes => {
-            io::write_all(STDOUT_FILENO, b"yes");
+            put(rt, b"yes");
         }
         Checked::No => {
-            io::write_all(STDOUT_FILENO, b"no");
+            put(rt, b"no");
         }
-        Checked::Refused(question) => put_refused(question),
+        Checked::Refused(question) => put_refused(rt, question),
     }
 }
 
-fn put_sections(parts: &[u64; PARTS]) {
-    io::write_all(STDOUT_FILENO, b" sections");
+fn put_sections(rt: &impl Print, parts: &[u64; PARTS]) {
+    put(rt, b" sections");
     for i in 0..PARTS {
-        put_spaced(parts[i]);
+        put_spaced(rt, parts[i]);
     }
 }
 
-fn show_checked(file: &[u8]) {
-    put_verdict(check_file(file));
+fn show_checked(rt: &impl Print, file: &[u8]) {
+    put_verdict(rt, check_file(file));
     let mut parts = [0u64; PARTS];
     match put_parts(file, &mut parts) {
-        Layout::Kept => put_sections(&parts),
+        Layout::Kept => put_sections(rt, &parts),
         Layout::Refused(_) => {}
     }
 }
 
-fn show_checking(line: Line, room: u64, damage: Damage) {
+fn show_checking(rt: &impl Print, line: Line, room: u64, damage: Damage) {
     let mut file = [0u8; FILE_SIZE];
     let answer = make_file(line, room, damage, &mut file);
     match answer {
-        Written::Refused(question) => put_refused(question),
+        Written::Refused(question) => put_refused(rt, question),
         Written::Filed(n) => {
             let size = smaller(n, FILE_SIZE);
-            show_checked(&file[0..size]);
+            show_checked(rt, &file[0..size]);
         }
     }
 }
 
 // The answer to `check HOW N ROOM LINE`.
-pub fn show_check(line: &[u8]) {
+pub fn show_check(rt: &impl Print, line: &[u8]) {
     let Making::Of(room, damage) = read_making(field(line, 1), field(line, 2), field(line, 3))
     else {
-        put_refused(UNREADABLE);
+        put_refused(rt, UNREADABLE);
         return;
     };
     let at = field_start(line, 4);
     match read_line(&line[at..]) {
-        Read::Line(l) => show_checking(l, room, damage),
-        Read::Unreadable => put_refused(UNREADABLE),
+        Read::Line(l) => show_checking(rt, l, room, damage),
+        Read::Unreadable => put_refused(rt, UNREADABLE),
     }
 }

@@ -4,7 +4,7 @@ ghost use Rattle.std.specs.Prelude.{◌≤◌, ◌<◌, ◌≡◌, length};
 use super::made::smaller;
 
 // By HOW and N. The places are taken modulo the file's bits or bytes.
-#[derive(Drop)]
+#[derive(Clone, Copy)]
 pub enum Damage {
     Whole,
     // Bit N becomes the other.

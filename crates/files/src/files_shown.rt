@@ -5,8 +5,8 @@ use super::made::{
     FILE_SIZE, MARK, UNREADABLE, at_most, file_line, put_refused, put_spaced, smaller,
 };
 use archive_writer::Written;
-use libc::STDOUT_FILENO;
 use line::read::{Line, Read, field, field_start, read_line};
+use streams::{put, put_decimal};
 use text::numeral::{Number, decimal};
 
 // So many zeros in a row, or more, are printed as their number.
@@ -24,65 +24,65 @@ fn zeros(bytes: &[u8]) -> usize
     bytes.len()
 }
 
-fn put_zeros(count: usize) {
-    io::write_all(STDOUT_FILENO, b"z");
-    io::print_decimal(STDOUT_FILENO, count as u64);
-    io::write_all(STDOUT_FILENO, b".");
+fn put_zeros(rt: &impl Print, count: usize) {
+    put(rt, b"z");
+    put_decimal(rt, count as u64);
+    put(rt, b".");
 }
 
-fn put_byte(byte: u8) {
-    io::print_hex(STDOUT_FILENO, byte as u64, 2);
+fn put_byte(rt: &impl Print, byte: u8) {
+    let _ = print!(rt; "{byte:02x}");
 }
 
-pub fn put_bytes(bytes: &[u8]) {
+pub fn put_bytes(rt: &impl Print, bytes: &[u8]) {
     let mut at = 0;
     while at < bytes.len() {
         let count = zeros(&bytes[at..]);
         if count < LEAST_RUN {
-            put_byte(bytes[at]);
+            put_byte(rt, bytes[at]);
             at += 1;
         } else {
-            put_zeros(count);
+            put_zeros(rt, count);
             at += count;
         }
     }
 }
 
-fn put_file(file: &[u8]) {
-    io::write_all(STDOUT_FILENO, b"file");
-    put_spaced(file.len() as u64);
-    io::write_all(STDOUT_FILENO, b" ");
-    put_bytes(file);
+fn put_file(rt: &impl Print, file: &[u8]) {
+    put(rt, b"file");
+    put_spaced(rt, file.len() as u64);
+    put(rt, b" ");
+    put_bytes(rt, file);
 }
 
 // Files into so many bytes.
-fn show_filing(line: Line, room: u64, file: &mut [u8]) {
+fn show_filing(rt: &impl Print, line: Line, room: u64, file: &mut [u8]) {
     let answer = file_line(line, room, file);
     match answer {
-        Written::Refused(question) => put_refused(question),
+        Written::Refused(question) => put_refused(rt, question),
         Written::Filed(n) => {
             let size = smaller(n, file.len());
-            put_file(&file[0..size]);
+            put_file(rt, &file[0..size]);
         }
     }
 }
 
 // The answer to `file ROOM LENGTH LINE`.
-pub fn show_file(line: &[u8]) {
+pub fn show_file(rt: &impl Print, line: &[u8]) {
     let Number::Of(room) = decimal(field(line, 1)) else {
-        put_refused(UNREADABLE);
+        put_refused(rt, UNREADABLE);
         return;
     };
     let Number::Of(length) = decimal(field(line, 2)) else {
-        put_refused(UNREADABLE);
+        put_refused(rt, UNREADABLE);
         return;
     };
     let at = field_start(line, 3);
     let Read::Line(l) = read_line(&line[at..]) else {
-        put_refused(UNREADABLE);
+        put_refused(rt, UNREADABLE);
         return;
     };
     let mut file = [MARK; FILE_SIZE];
     let size = at_most(length, FILE_SIZE);
-    show_filing(l, room, &mut file[0..size]);
+    show_filing(rt, l, room, &mut file[0..size]);
 }

@@ -4,11 +4,10 @@ ghost use Rattle.std.specs.Prelude.{◌≤◌};
 use super::damages::{Damage, MOST_GROWTH, damaged};
 use archive::inputs::Inputs;
 use archive_writer::{Written, file_topology};
-use check::same;
 use config::limits::{LOG_SIZE, RECORDS_SIZE, SNAPSHOT_SIZE};
-use libc::STDOUT_FILENO;
 use line::configured::config_of;
 use line::read::Line;
+use streams::{put, put_decimal};
 use text::numeral::{Number, decimal};
 
 // A line that can't be read.
@@ -25,14 +24,14 @@ pub const FILE_SIZE: usize = 8192;
 // What the buffers hold before a run. It is not 0, so that zeros of a file are the writer's.
 pub const MARK: u8 = 0xa5;
 
-pub fn put_spaced(n: u64) {
-    io::write_all(STDOUT_FILENO, b" ");
-    io::print_decimal(STDOUT_FILENO, n);
+pub fn put_spaced(rt: &impl Print, n: u64) {
+    put(rt, b" ");
+    put_decimal(rt, n);
 }
 
-pub fn put_refused(question: u64) {
-    io::write_all(STDOUT_FILENO, b"refused");
-    put_spaced(question);
+pub fn put_refused(rt: &impl Print, question: u64) {
+    put(rt, b"refused");
+    put_spaced(rt, question);
 }
 
 pub fn smaller(a: usize, b: usize) -> usize
@@ -70,29 +69,21 @@ pub fn file_line(line: Line, room: u64, file: &mut [u8]) -> Written {
 }
 
 // How a file is made: with room for so many snapshots, and damaged then.
-#[derive(Drop)]
+#[derive(Clone, Copy)]
 pub enum Making {
     Of(u64, Damage),
     Unreadable,
 }
 
 fn making_of(how: &[u8], n: u64, room: u64) -> Making {
-    if same(how, b"flip") {
-        return Making::Of(room, Damage::Flip(n));
+    match how {
+        b"flip" => Making::Of(room, Damage::Flip(n)),
+        b"cut" => Making::Of(room, Damage::Cut(n)),
+        b"set" => Making::Of(room, Damage::Set(n)),
+        b"grow" if n <= MOST_GROWTH => Making::Of(room, Damage::Grow(n)),
+        b"whole" if n == 0 => Making::Of(room, Damage::Whole),
+        _ => Making::Unreadable,
     }
-    if same(how, b"cut") {
-        return Making::Of(room, Damage::Cut(n));
-    }
-    if same(how, b"set") {
-        return Making::Of(room, Damage::Set(n));
-    }
-    if same(how, b"grow") & (n <= MOST_GROWTH) {
-        return Making::Of(room, Damage::Grow(n));
-    }
-    if same(how, b"whole") & (n == 0) {
-        return Making::Of(room, Damage::Whole);
-    }
-    Making::Unreadable
 }
 
 // What HOW, N and ROOM ask for.

@@ -5,6 +5,8 @@
 // The lines are about each topology and each end, about the edges of 18 and of the questions before it, about a bit
 // of each field and section, about each rule of the layout, and about slot limits before, at and behind a run's end.
 // `stdout` is what `oracle/`'s program `answer` prints for `stdin`.
+#![tactic(auto)]
+
 mod checks_shown;
 mod damages;
 mod files_shown;
@@ -13,9 +15,9 @@ mod pairs_shown;
 
 use checks_shown::show_check;
 use files_shown::show_file;
-use libc::{STDIN_FILENO, STDOUT_FILENO};
 use line::read::{field, until};
 use pairs_shown::show_pair;
+use streams::{put, read_full};
 
 const INPUT_SIZE: usize = 65536;
 
@@ -24,27 +26,27 @@ const FILE_WORD: usize = 4;
 
 const CHECK_WORD: usize = 5;
 
-fn answer(line: &[u8]) {
+fn answer(rt: &impl Print, line: &[u8]) {
     match field(line, 0).len() {
-        FILE_WORD => show_file(line),
-        CHECK_WORD => show_check(line),
-        _ => show_pair(line),
+        FILE_WORD => show_file(rt, line),
+        CHECK_WORD => show_check(rt, line),
+        _ => show_pair(rt, line),
     }
-    io::write_all(STDOUT_FILENO, b"\n");
+    put(rt, b"\n");
 }
 
 // Answers one line after another.
-fn answer_lines(input: &[u8]) {
+fn answer_lines(rt: &impl Print, input: &[u8]) {
     let mut at = 0;
     while at < input.len() {
         let end = at + until(&input[at..], b'\n');
-        answer(&input[at..end]);
+        answer(rt, &input[at..end]);
         at = end + 1;
     }
 }
 
-fn main() {
+fn main(rt: HostRuntime) {
     let mut input = [0u8; INPUT_SIZE];
-    let n = io::read_full(STDIN_FILENO, &mut input);
-    answer_lines(&input[..n]);
+    let n = read_full(&mut rt.stdin(), &mut input);
+    answer_lines(&rt, &input[..n]);
 }

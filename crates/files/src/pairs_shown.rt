@@ -6,52 +6,53 @@ use super::made::{
 };
 use archive_supersede::{Place, Superseding, supersede, which_supersedes};
 use archive_writer::Written;
-use libc::STDOUT_FILENO;
 use line::read::{Line, Read, field, field_start, read_line};
+use streams::put;
 use text::numeral::{Number, decimal};
 
-fn put_part(place: Place, part: &[u8]) {
-    put_spaced(place.offset as u64);
-    put_spaced(place.length as u64);
+fn put_part(rt: &impl Print, place: Place, part: &[u8]) {
+    put_spaced(rt, place.offset as u64);
+    put_spaced(rt, place.length as u64);
     if 0 < part.len() {
-        io::write_all(STDOUT_FILENO, b" ");
-        put_bytes(part);
+        put(rt, b" ");
+        put_bytes(rt, part);
     }
 }
 
-fn show_superseding<'a>(first: &'a [u8], second: &'a [u8]) {
+fn show_superseding<'a>(rt: &impl Print, first: &'a [u8], second: &'a [u8]) {
     let part = supersede(first, second);
     match which_supersedes(first, second) {
         Superseding::First(place) => {
-            io::write_all(STDOUT_FILENO, b"first");
-            put_part(place, part);
+            put(rt, b"first");
+            put_part(rt, place, part);
         }
         Superseding::Second(place) => {
-            io::write_all(STDOUT_FILENO, b"second");
-            put_part(place, part);
+            put(rt, b"second");
+            put_part(rt, place, part);
         }
         Superseding::Refused(question) => {
-            put_refused(question);
-            io::write_all(STDOUT_FILENO, b" part");
-            put_spaced(part.len() as u64);
+            put_refused(rt, question);
+            put(rt, b" part");
+            put_spaced(rt, part.len() as u64);
         }
     }
 }
 
 // Makes the second file beside the first.
-fn show_beside(first: &[u8], line: Line, room: u64, damage: Damage) {
+fn show_beside(rt: &impl Print, first: &[u8], line: Line, room: u64, damage: Damage) {
     let mut second = [0u8; FILE_SIZE];
     match make_file(line, room, damage, &mut second) {
-        Written::Refused(question) => put_refused(question),
+        Written::Refused(question) => put_refused(rt, question),
         Written::Filed(n) => {
             let size = smaller(n, FILE_SIZE);
-            show_superseding(first, &second[0..size]);
+            show_superseding(rt, first, &second[0..size]);
         }
     }
 }
 
 // Makes the first file, of the line. The second is that of the line with the other limit.
 fn show_files(
+    rt: &impl Print,
     line: &[u8],
     limit: u64,
     room: u64,
@@ -60,26 +61,26 @@ fn show_files(
     other_damage: Damage,
 ) {
     let Read::Line(asked) = read_line(line) else {
-        put_refused(UNREADABLE);
+        put_refused(rt, UNREADABLE);
         return;
     };
     let mut other = asked;
     other.limit = limit;
     let mut first = [0u8; FILE_SIZE];
     match make_file(asked, room, damage, &mut first) {
-        Written::Refused(question) => put_refused(question),
+        Written::Refused(question) => put_refused(rt, question),
         Written::Filed(n) => {
             let size = smaller(n, FILE_SIZE);
-            show_beside(&first[0..size], other, other_room, other_damage);
+            show_beside(rt, &first[0..size], other, other_room, other_damage);
         }
     }
 }
 
 // The answer to `supersede HOW N ROOM HOW N ROOM LIMIT LINE`.
-pub fn show_pair(line: &[u8]) {
+pub fn show_pair(rt: &impl Print, line: &[u8]) {
     let Making::Of(room, damage) = read_making(field(line, 1), field(line, 2), field(line, 3))
     else {
-        put_refused(UNREADABLE);
+        put_refused(rt, UNREADABLE);
         return;
     };
     let Making::Of(other_room, other_damage) = read_making(
@@ -87,13 +88,21 @@ pub fn show_pair(line: &[u8]) {
         field(line, 5),
         field(line, 6),
     ) else {
-        put_refused(UNREADABLE);
+        put_refused(rt, UNREADABLE);
         return;
     };
     let Number::Of(limit) = decimal(field(line, 7)) else {
-        put_refused(UNREADABLE);
+        put_refused(rt, UNREADABLE);
         return;
     };
     let at = field_start(line, 8);
-    show_files(&line[at..], limit, room, damage, other_room, other_damage);
+    show_files(
+        rt,
+        &line[at..],
+        limit,
+        room,
+        damage,
+        other_room,
+        other_damage,
+    );
 }

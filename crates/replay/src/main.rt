@@ -9,6 +9,8 @@
 // each question, with 16 and without it, and 15 are of `inputs validities 1`. Lines of `inputs` whose
 // rounds were too short have other repeats, round slots, intervals or limits here. `stdout` is what
 // `oracle/`'s program `answer` prints for `stdin`.
+#![tactic(auto)]
+
 mod rounds_shown;
 mod sweeps_shown;
 mod validities_shown;
@@ -18,13 +20,13 @@ ghost use Rattle.config.specs.Limits.{max_nodes};
 ghost use Rattle.listing.specs.Listing.{listing_most};
 
 use config::limits::{LISTED_SIZE, LOG_SIZE, MAX_NODES, RECORDS_SIZE};
-use libc::{STDIN_FILENO, STDOUT_FILENO};
 use line::configured::config_of;
 use line::read::{Line, Read, field, field_start, read_line, until};
 use listing::write::{LISTING_SIZE, write_listing, write_refusal};
 use rounds_shown::{show_round_of_rows, show_round_of_topology};
 use rules::answer::Answer;
 use sim::entries::run_rows;
+use streams::{put, read_full};
 use sweeps_shown::{Seeds, show_sweep_of_rows, show_sweep_of_topology};
 use text::numeral::{Number, decimal, numeral};
 use validities_shown::{show_validity_of_rows, show_validity_of_topology};
@@ -112,7 +114,7 @@ fn run_sets(rows: &[u32], nodes: u64, line: Line, out: &mut [u8]) -> usize
 }
 
 // What is printed at once, and leaves nothing in the buffer: one round, a sweep or the configuration's validity.
-#[derive(Drop)]
+#[derive(Clone, Copy)]
 enum Shown {
     Round(u64),
     Sweep(Seeds),
@@ -120,44 +122,51 @@ enum Shown {
 }
 
 // What a line asks for.
-#[derive(Drop)]
+#[derive(Clone, Copy)]
 enum Wanted {
     Run,
     Shown(Shown),
 }
 
-fn show_of_rows(rows: &[u32], nodes: u64, line: Line, shown: Shown) {
+fn show_of_rows(rt: &impl Print, rows: &[u32], nodes: u64, line: Line, shown: Shown) {
     let config = config_of(line);
     match shown {
-        Shown::Round(k) => show_round_of_rows(rows, nodes, config, k),
-        Shown::Sweep(seeds) => show_sweep_of_rows(rows, nodes, config, seeds),
-        Shown::Validity => show_validity_of_rows(rows, nodes, config),
+        Shown::Round(k) => show_round_of_rows(rt, rows, nodes, config, k),
+        Shown::Sweep(seeds) => show_sweep_of_rows(rt, rows, nodes, config, seeds),
+        Shown::Validity => show_validity_of_rows(rt, rows, nodes, config),
     }
 }
 
-fn show_of_topology(line: Line, shown: Shown) {
+fn show_of_topology(rt: &impl Print, line: Line, shown: Shown) {
     match shown {
-        Shown::Round(k) => show_round_of_topology(line, k),
-        Shown::Sweep(seeds) => show_sweep_of_topology(line, seeds),
-        Shown::Validity => show_validity_of_topology(line),
+        Shown::Round(k) => show_round_of_topology(rt, line, k),
+        Shown::Sweep(seeds) => show_sweep_of_topology(rt, line, seeds),
+        Shown::Validity => show_validity_of_topology(rt, line),
     }
 }
 
 // Answers for the rows.
-fn answer_sets(rows: &[u32], nodes: u64, line: Line, wanted: Wanted, out: &mut [u8]) -> usize
+fn answer_sets(
+    rt: &impl Print,
+    rows: &[u32],
+    nodes: u64,
+    line: Line,
+    wanted: Wanted,
+    out: &mut [u8],
+) -> usize
     ensures { result ≤ listing_most }
 {
     match wanted {
         Wanted::Run => run_sets(rows, nodes, line, out),
         Wanted::Shown(shown) => {
-            show_of_rows(rows, nodes, line, shown);
+            show_of_rows(rt, rows, nodes, line, shown);
             0
         }
     }
 }
 
 // The answer to a line `rows nodes SETS`, followed by the configuration.
-fn answer_rows(line: &[u8], wanted: Wanted, out: &mut [u8]) -> usize
+fn answer_rows(rt: &impl Print, line: &[u8], wanted: Wanted, out: &mut [u8]) -> usize
     ensures { result ≤ listing_most }
 {
     let Number::Of(nodes) = decimal(field(line, 1)) else {
@@ -168,13 +177,13 @@ fn answer_rows(line: &[u8], wanted: Wanted, out: &mut [u8]) -> usize
     let count = smaller((text.len() + 1) / 9, SETS);
     let at = field_start(line, 3);
     match read_config(&line[at..]) {
-        Read::Line(l) => answer_sets(&rows[..count], nodes, l, wanted, out),
+        Read::Line(l) => answer_sets(rt, &rows[..count], nodes, l, wanted, out),
         Read::Unreadable => write_refusal(12, out),
     }
 }
 
 // The answer to the program's line.
-fn answer_topology(line: &[u8], wanted: Wanted, out: &mut [u8]) -> usize
+fn answer_topology(rt: &impl Print, line: &[u8], wanted: Wanted, out: &mut [u8]) -> usize
     ensures { result ≤ listing_most }
 {
     match wanted {
@@ -182,7 +191,7 @@ fn answer_topology(line: &[u8], wanted: Wanted, out: &mut [u8]) -> usize
         Wanted::Shown(shown) => match read_line(line) {
             Read::Unreadable => write_refusal(12, out),
             Read::Line(l) => {
-                show_of_topology(l, shown);
+                show_of_topology(rt, l, shown);
                 0
             }
         },
@@ -190,17 +199,17 @@ fn answer_topology(line: &[u8], wanted: Wanted, out: &mut [u8]) -> usize
 }
 
 // The answer to a line of rows, or to the program's.
-fn answer_wanted(line: &[u8], wanted: Wanted, out: &mut [u8]) -> usize
+fn answer_wanted(rt: &impl Print, line: &[u8], wanted: Wanted, out: &mut [u8]) -> usize
     ensures { result ≤ listing_most }
 {
     if byte_at(line, 0) == b'r' {
-        return answer_rows(line, wanted, out);
+        return answer_rows(rt, line, wanted, out);
     }
-    answer_topology(line, wanted, out)
+    answer_topology(rt, line, wanted, out)
 }
 
 // The answer to `sweep LENGTH COUNT FIRST STEP` and the line behind it.
-fn answer_sweep(line: &[u8], out: &mut [u8]) -> usize
+fn answer_sweep(rt: &impl Print, line: &[u8], out: &mut [u8]) -> usize
     ensures { result ≤ listing_most }
 {
     let Number::Of(length) = decimal(field(line, 1)) else {
@@ -222,45 +231,45 @@ fn answer_sweep(line: &[u8], out: &mut [u8]) -> usize
         step,
     };
     let at = field_start(line, 5);
-    answer_wanted(&line[at..], Wanted::Shown(Shown::Sweep(seeds)), out)
+    answer_wanted(rt, &line[at..], Wanted::Shown(Shown::Sweep(seeds)), out)
 }
 
 // The answer to a line, to one behind `round K`, which the third letter tells from `rows`, to a sweep, or to one behind
 // `validity`.
-fn answer(line: &[u8], out: &mut [u8]) -> usize
+fn answer(rt: &impl Print, line: &[u8], out: &mut [u8]) -> usize
     ensures { result ≤ listing_most }
 {
     if byte_at(line, 0) == b's' {
-        return answer_sweep(line, out);
+        return answer_sweep(rt, line, out);
     }
     if byte_at(line, 0) == b'v' {
         let at = field_start(line, 1);
-        return answer_wanted(&line[at..], Wanted::Shown(Shown::Validity), out);
+        return answer_wanted(rt, &line[at..], Wanted::Shown(Shown::Validity), out);
     }
     if byte_at(line, 2) != b'u' {
-        return answer_wanted(line, Wanted::Run, out);
+        return answer_wanted(rt, line, Wanted::Run, out);
     }
     let Number::Of(k) = decimal(field(line, 1)) else {
         return write_refusal(12, out);
     };
     let at = field_start(line, 2);
-    answer_wanted(&line[at..], Wanted::Shown(Shown::Round(k)), out)
+    answer_wanted(rt, &line[at..], Wanted::Shown(Shown::Round(k)), out)
 }
 
 // Answers one line after another.
-fn replay(input: &[u8]) {
+fn replay(rt: &impl Print, input: &[u8]) {
     let mut out = [0u8; LISTING_SIZE];
     let mut at = 0;
     while at < input.len() {
         let end = at + until(&input[at..], b'\n');
-        let size = answer(&input[at..end], &mut out);
-        io::write_all(STDOUT_FILENO, &out[..size]);
+        let size = answer(rt, &input[at..end], &mut out);
+        put(rt, &out[..size]);
         at = end + 1;
     }
 }
 
-fn main() {
+fn main(rt: HostRuntime) {
     let mut input = [0u8; INPUT_SIZE];
-    let n = io::read_full(STDIN_FILENO, &mut input);
-    replay(&input[..n]);
+    let n = read_full(&mut rt.stdin(), &mut input);
+    replay(&rt, &input[..n]);
 }

@@ -4,9 +4,9 @@ ghost use Rattle.std.specs.Prelude.{◌≡◌, ◌≤◌, length};
 
 use super::rounds_shown::{put_refused, put_spaced};
 use config::Config;
-use libc::STDOUT_FILENO;
 use line::configured::config_of;
 use line::read::Line;
+use streams::{put, put_decimal};
 use sweep::{SWEPT_SIZE, Sweep, sweep_rows, sweep_topology};
 
 // The most seeds, and the longest table, that a line asks for.
@@ -17,7 +17,7 @@ const PLACES: usize = 512;
 const MARK: u64 = 77;
 
 // The length of the table, and the seeds: how many, the first, and the step from each to the next.
-#[derive(Drop)]
+#[derive(Clone, Copy)]
 pub struct Seeds {
     pub length: u64,
     pub count: u64,
@@ -53,13 +53,13 @@ fn kept(places: &[u64]) -> u64 {
     n
 }
 
-fn put_lines(numbers: &[u64]) {
+fn put_lines(rt: &impl Print, numbers: &[u64]) {
     for i in 0..numbers.len() {
-        io::print_decimal(STDOUT_FILENO, numbers[i]);
+        put_decimal(rt, numbers[i]);
         if i % SWEPT_SIZE == SWEPT_SIZE - 1 {
-            io::write_all(STDOUT_FILENO, b"\n");
+            put(rt, b"\n");
         } else {
-            io::write_all(STDOUT_FILENO, b" ");
+            put(rt, b" ");
         }
     }
 }
@@ -75,51 +75,58 @@ fn lines_end(count: usize, length: usize) -> usize
     }
 }
 
-fn put_swept(table: &[u64], count: usize, rounds: u64) {
+fn put_swept(rt: &impl Print, table: &[u64], count: usize, rounds: u64) {
     let end = lines_end(count, table.len());
-    put_lines(&table[..end]);
-    io::write_all(STDOUT_FILENO, b"rounds");
-    put_spaced(rounds);
-    io::write_all(STDOUT_FILENO, b" kept");
-    put_spaced(kept(&table[end..]));
+    put_lines(rt, &table[..end]);
+    put(rt, b"rounds");
+    put_spaced(rt, rounds);
+    put(rt, b" kept");
+    put_spaced(rt, kept(&table[end..]));
 }
 
 // A refusal is told only if the whole table kept its marks.
-fn show(answer: Sweep, table: &[u64], count: usize) {
+fn show(rt: &impl Print, answer: Sweep, table: &[u64], count: usize) {
     match answer {
-        Sweep::Swept(rounds) => put_swept(table, count, rounds),
+        Sweep::Swept(rounds) => put_swept(rt, table, count, rounds),
         Sweep::Refused(question) => {
             if kept(table) == table.len() as u64 {
-                put_refused(question);
+                put_refused(rt, question);
             }
         }
     }
-    io::write_all(STDOUT_FILENO, b"\n");
+    put(rt, b"\n");
 }
 
-fn show_rows(rows: &[u32], n: u64, config: Config, seeds: &[u64], table: &mut [u64]) {
+fn show_rows(
+    rt: &impl Print,
+    rows: &[u32],
+    n: u64,
+    config: Config,
+    seeds: &[u64],
+    table: &mut [u64],
+) {
     let answer = sweep_rows(rows, n, config, seeds, table);
-    show(answer, table, seeds.len());
+    show(rt, answer, table, seeds.len());
 }
 
-pub fn show_sweep_of_rows(rows: &[u32], n: u64, config: Config, seeds: Seeds) {
+pub fn show_sweep_of_rows(rt: &impl Print, rows: &[u32], n: u64, config: Config, seeds: Seeds) {
     let list = seeds_of(seeds.first, seeds.step);
     let count = at_most(seeds.count, MOST_SEEDS);
     let mut table = [MARK; PLACES];
     let length = at_most(seeds.length, PLACES);
-    show_rows(rows, n, config, &list[..count], &mut table[..length]);
+    show_rows(rt, rows, n, config, &list[..count], &mut table[..length]);
 }
 
-fn show_topology(line: Line, seeds: &[u64], table: &mut [u64]) {
+fn show_topology(rt: &impl Print, line: Line, seeds: &[u64], table: &mut [u64]) {
     let config = config_of(line);
     let answer = sweep_topology(line.topology, line.first, line.second, config, seeds, table);
-    show(answer, table, seeds.len());
+    show(rt, answer, table, seeds.len());
 }
 
-pub fn show_sweep_of_topology(line: Line, seeds: Seeds) {
+pub fn show_sweep_of_topology(rt: &impl Print, line: Line, seeds: Seeds) {
     let list = seeds_of(seeds.first, seeds.step);
     let count = at_most(seeds.count, MOST_SEEDS);
     let mut table = [MARK; PLACES];
     let length = at_most(seeds.length, PLACES);
-    show_topology(line, &list[..count], &mut table[..length]);
+    show_topology(rt, line, &list[..count], &mut table[..length]);
 }

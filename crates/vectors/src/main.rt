@@ -1,21 +1,23 @@
 // Runs the published vectors of ChaCha and of the seeds, and prints of each how many of its words
 // or draws came out as published.
+#![tactic(auto)]
+
 mod published;
 
 ghost use Rattle.std.specs.Prelude.{◌≤◌};
 
-use libc::STDOUT_FILENO;
 use random::chacha::{Quad, block, quarter_round};
 use random::draws::draws;
+use streams::{put, put_decimal};
 
 // One line: what was compared, and how many of how many were equal.
-fn report(what: &[u8], equal: u64, of: u64) {
-    io::write_all(STDOUT_FILENO, what);
-    io::write_all(STDOUT_FILENO, b": equal ");
-    io::print_decimal(STDOUT_FILENO, equal);
-    io::write_all(STDOUT_FILENO, b" of ");
-    io::print_decimal(STDOUT_FILENO, of);
-    io::write_all(STDOUT_FILENO, b"\n");
+fn report(rt: &impl Print, what: &[u8], equal: u64, of: u64) {
+    put(rt, what);
+    put(rt, b": equal ");
+    put_decimal(rt, equal);
+    put(rt, b" of ");
+    put_decimal(rt, of);
+    put(rt, b"\n");
 }
 
 fn one_if(equal: bool) -> u64
@@ -70,32 +72,37 @@ fn short_block(first: u32, number: u32) -> [u32; 16] {
     block(4, [first, 0, 0, 0, 0, 0, 0, 0], [number, 0, 0, 0])
 }
 
-fn main() {
-    report(b"quarter round", quarter_round_words(), 4);
+fn main(rt: HostRuntime) {
+    report(&rt, b"quarter round", quarter_round_words(), 4);
     report(
+        &rt,
         b"RFC 8439 block",
         equal_words(rfc_block(), published::RFC_BLOCK),
         16,
     );
     report(
+        &rt,
         b"TC1 block 0",
         equal_words(short_block(0, 0), published::TC1_BLOCK_0),
         16,
     );
     report(
+        &rt,
         b"TC1 block 1",
         equal_words(short_block(0, 1), published::TC1_BLOCK_1),
         16,
     );
     report(
+        &rt,
         b"TC2 block 0",
         equal_words(short_block(1, 0), published::TC2_BLOCK_0),
         16,
     );
-    report(b"seed 0", equal_draws(0, published::SEED_0), 10);
-    report(b"seed 1", equal_draws(1, published::SEED_1), 10);
-    report(b"seed 7", equal_draws(7, published::SEED_7), 10);
+    report(&rt, b"seed 0", equal_draws(0, published::SEED_0), 10);
+    report(&rt, b"seed 1", equal_draws(1, published::SEED_1), 10);
+    report(&rt, b"seed 7", equal_draws(7, published::SEED_7), 10);
     report(
+        &rt,
         b"seed 2^64 - 1",
         equal_draws(u64::MAX, published::SEED_MAX),
         10,

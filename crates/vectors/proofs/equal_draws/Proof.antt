@@ -3,10 +3,10 @@ use borrow.Author.Rules.{rules}
 use Rattle.vectors.proofs.equal_draws.Statement.{statement}
 use Rattle.vectors.proofs.equal_draws.Tie as tie
 
-abbrev invariant_loop : tie.invariant_loop
+abbrev invariant_loop : tie.invariant-loop-i
 invariant_loop seed published drawn n₀ i₀ n i = (i ≤ 10) × (n ≤ i)
 
-abbrev decreases_loop : tie.decreases_loop
+abbrev decreases_loop : tie.decreases-loop-i
 decreases_loop seed published drawn n₀ i₀ n i = 10 - i
 
 pub equal_draws_spec : {M : Type 1} → statement M

@@ -3,10 +3,10 @@ use borrow.Author.Rules.{rules}
 use Rattle.vectors.proofs.equal_words.Statement.{statement}
 use Rattle.vectors.proofs.equal_words.Tie as tie
 
-abbrev invariant_loop : tie.invariant_loop
+abbrev invariant_loop : tie.invariant-loop-i
 invariant_loop a b n₀ i₀ n i = (i ≤ 16) × (n ≤ i)
 
-abbrev decreases_loop : tie.decreases_loop
+abbrev decreases_loop : tie.decreases-loop-i
 decreases_loop a b n₀ i₀ n i = 16 - i
 
 pub equal_words_spec : {M : Type 1} → statement M
