@@ -11,14 +11,16 @@ crates() {
             print n }' "$here/crates.txt"
 }
 
-# Proves and builds the program: a line a crate on standard error, and all that the prover says in a file.
+# Proves and builds the program: a line a crate on standard error, and all that the prover said in a file. `rt run` also
+# runs what it has built, here on an empty input.
 build() {
     mkdir -p "$here/target" || exit 2
     printf '%s: proving %s crates, once, about %s minutes\n' "$name" "$(crates)" "$1" >&2
-    (cd "$here" && rt check "$crate" 2>&1) | while IFS= read -r line; do
+    (cd "$here/crates/$crate" && rt run </dev/null 2>&1) | while IFS= read -r line; do
         printf '%s\n' "$line" >&3
         case $line in
-            'rt: '*' proved ('*) printf '  %s\n' "${line#rt: }" >&2 ;;
+            'crate '*': modules '*) proved=${line#crate }; proved=${proved%%:*} ;;
+            'logic=proved '*) printf '  %s proved\n' "$proved" >&2 ;;
         esac
     done 3>"$log"
     [ -x "$program" ] && return
@@ -30,7 +32,7 @@ build() {
 ready() {
     name=$1
     crate=$(printf '%s\n' "$name" | tr - _)
-    program=$here/target/bin/$crate
+    program=$here/crates/$crate/out/$crate
     log=$here/target/$name.log
     [ -x "$program" ] || build "$2"
 }

@@ -5,7 +5,7 @@
  * whether a configuration that was filed earlier would still be run, a writer, a reader and a check of
  * archive files, and one that says which of two such files supersedes the other.
  *
- * Build the library with `rt staticlib capi` and link target/staticlib/libcapi.a. It is for x86-64
+ * Build the library with `rt lib` in crates/capi and link crates/capi/out/libcapi.a. It is for x86-64
  * Linux. It keeps nothing between calls, so that threads may call it at the same time. A run, a
  * preview or a sweep takes about 80,000 bytes of the caller's stack, filing a run at most about 130,000,
  * and a check of an archive file at most about 250,000, whatever the file's length.

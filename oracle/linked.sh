@@ -21,7 +21,7 @@ root=$(dirname "$here")
 out=$root/target/oracle
 
 sh "$here/build.sh" "$@"
-(cd "$root" && rt staticlib capi)
-(cd "$out/src" && CTSIM_LIBRARY=$root/target/staticlib cargo --config "$here/debian.toml" build --offline \
+(cd "$root/crates/capi" && rt lib)
+(cd "$out/src" && CTSIM_LIBRARY=$root/crates/capi/out cargo --config "$here/debian.toml" build --offline \
     --profile "$profile" --target-dir "$out/build" -p compare --bin "$program")
 cp "$out/build/$profile/$program" "$out/bin/"

@@ -4,11 +4,11 @@
 # refuses. The gate leaves it out, as it needs a C compiler and Python. Ends in 'N passed, M failed'.
 set -u
 cd "$(dirname "$0")/.." || exit 2
-rt staticlib capi >/dev/null || exit 2
+(cd crates/capi && rt lib) >/dev/null || exit 2
 made=target/archive-test
 rm -rf "$made" && mkdir -p "$made" || exit 2
 "${CC:-cc}" -std=c99 -Wall -Wextra -pedantic -O2 tests/archive_reader.c -o target/archive-reader || exit 2
-"${CC:-cc}" -std=c99 -Wall -Wextra -pedantic -O2 -Iinclude tests/archive_files.c target/staticlib/libcapi.a \
+"${CC:-cc}" -std=c99 -Wall -Wextra -pedantic -O2 -Iinclude tests/archive_files.c crates/capi/out/libcapi.a \
     -o target/archive-files || exit 2
 passed=0
 failed=0

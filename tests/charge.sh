@@ -3,9 +3,10 @@
 # out, as it needs a C compiler. Ends in 'N passed, M failed'.
 set -u
 cd "$(dirname "$0")/.." || exit 2
-rt staticlib capi >/dev/null || exit 2
+(cd crates/capi && rt lib) >/dev/null || exit 2
+mkdir -p target || exit 2
 "${CC:-cc}" -std=c99 -Wall -Wextra -pedantic -Iinclude examples/charge.c examples/words.c \
-    target/staticlib/libcapi.a -o target/charge || exit 2
+    crates/capi/out/libcapi.a -o target/charge || exit 2
 passed=0
 failed=0
 

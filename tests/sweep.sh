@@ -3,9 +3,10 @@
 # out, as it needs a C compiler. Ends in 'N passed, M failed'.
 set -u
 cd "$(dirname "$0")/.." || exit 2
-rt staticlib capi >/dev/null || exit 2
+(cd crates/capi && rt lib) >/dev/null || exit 2
+mkdir -p target || exit 2
 "${CC:-cc}" -std=c99 -pthread -Wall -Wextra -pedantic -Iinclude examples/sweep.c examples/words.c \
-    target/staticlib/libcapi.a -o target/sweep || exit 2
+    crates/capi/out/libcapi.a -o target/sweep || exit 2
 line='2 3 0 1 - 0000000000000000 1 2 1000'
 grid='4 4 4 2 5 3fe0000000000000 20 2 100000'
 passed=0
