@@ -1,2 +1,3 @@
 -- Lemmas that several proofs of the crate use.
 pub mod Rates
+pub mod Unless

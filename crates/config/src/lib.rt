@@ -3,18 +3,13 @@
 
 pub mod limits;
 pub mod rate;
+pub mod refusal;
 
-// The configured length limit of a round, or none.
-#[derive(Clone, Copy)]
-pub enum RoundSlots {
-    Absent,
-    Of(u64),
-}
-
+// `round_slots` is the length limit of a round, if there is one.
 #[derive(Clone, Copy)]
 pub struct Config {
     pub flood_repeats: u64,
-    pub round_slots: RoundSlots,
+    pub round_slots: Option<u64>,
     pub loss_rate: f64,
     pub seed: u64,
     pub num_proposals: u64,

@@ -1,5 +1,5 @@
 // The summary of a run (rule 7.5). The last two are the records, and all snapshots that were taken,
-// stored or not.
+// stored or not. `ended` is a number and no enum, as C hands over summaries in which it may be any.
 #[derive(Clone, Copy)]
 pub struct Summary {
     pub nodes: u64,

@@ -1,6 +1,6 @@
 -- The draw's fraction m / 2^53 is exact as an f64, and one multiplication gives it. Assumes nothing.
-use Rattle.std.proofs.Common.{◌≡◌, ℕ, zero, suc, ◌/◌, ◌^◌, ◌<◌, ◌≤◌, false, T, pos, negsuc, sym, refl, ap, ◌∙◌, lt_of_lt_of_le, zero-lt-suc, mul_assoc, mul-one, arith, lit<, lit≤, le→leb, shl_lt}
-use lib.Ieee.{fin, binary64, round, mul, of_int, of_bits, in_float}
+use Rattle.std.proofs.Common.{◌≡◌, ℕ, zero, suc, ◌/◌, ◌^◌, ◌<◌, ◌≤◌, false, pos, negsuc, sym, refl, ap, ◌∙◌, lt_of_lt_of_le, zero-lt-suc, mul_assoc, mul-one, arith, lit<, lit≤, shl_lt}
+use lib.Ieee.{fin, binary64, round, mul, of_int, of_bits}
 use lib.Ieee.Exact.{HasValue, round_exact}
 use lib.Ieee.Back.{round_whole}
 use lib.Ieee.Positive.{positive_of_value, mul_at}
@@ -17,11 +17,6 @@ fraction_exact d h =
     let m = d / 2 ^ 11 in
     let small : m < 2 ^ 53 = top_bits d h in
     round_exact binary64 false m (2 ^ 53) m 1021 (lit< tt) small (lt_of_lt_of_le (shl_lt 53 1021 small) (lit≤ tt)) (sym (mul_assoc m (2 ^ 1021) (2 ^ 53)))
-
--- every m of at most 53 bits is an f64
-pub top_bits_cast : (d : ℕ) → d < 2 ^ 64 → T (in_float binary64 (pos (d / 2 ^ 11)))
-unfolding in_float
-top_bits_cast d h = le→leb (d / 2 ^ 11) (2 ^ 53) (omega (arith, top_bits d h))
 
 step_is : of_bits binary64 0x3ca0_0000_0000_0000 ≡ fin false 1 (negsuc 52)
 unfolding of_bits

@@ -1,7 +1,7 @@
 -- Lists by their places: `tabulate`, and a list that is filled or changed from the front, one place after the other.
 -- Assumes nothing.
 use Rattle.std.proofs.Common.{◌≡◌, ℕ, zero, suc, ◌+◌, ◌<◌, ◌≤◌, List, [], ◌∷◌, ◌++◌, length, get_or, set, sym, refl, ap, ◌∙◌, le_of_suc-le-suc, add-one, arith, length-set, get_or-set_other, get_or-set_same, ext_get_or, below_more}
-use Rattle.random.specs.Table.{tabulate, Placed}
+use Rattle.random.specs.Table.{tabulate}
 
 pub length_tabulate : {A : Type 0} (n : ℕ) (f : ℕ → A) → length (tabulate n f) ≡ n
 unfolding tabulate
@@ -57,16 +57,3 @@ filled_more {f} {n} {l} {i} v d h e =
 
 pub filled_all : {f : ℕ → ℕ} {n : ℕ} {l : List ℕ} {i : ℕ} → Filled f n l i → n ≤ i → l ≡ tabulate n f
 filled_all {f} {n} {l} d h = is_tabulate n f 0 l d.size (λ k b. d.places k (omega arith))
-
--- words put in place one after the other
-pub placed_none : (from l : List ℕ) (at : ℕ) → Placed from at 0 l l
-placed_none from l at = record { size = refl; kept = λ k h. refl; placed = λ k h. absurd (omega arith) }
-
-pub placed_more : {from l₀ l : List ℕ} {at i : ℕ} → Placed from at i l₀ l → Placed from at (i + 1) l₀ (set l (at + i) (get_or from i 0))
-placed_more {from} {l₀} {l} {at} {i} d =
-    let v = get_or from i 0 in
-    record {
-      size = length-set l (at + i) v ∙ d.size;
-      kept = λ k b. get_or-set_other l (at + i) k v 0 (λ p. omega (arith, p)) ∙ d.kept k b;
-      placed = below_more _ i (λ k b h. get_or-set_other l (at + i) (at + k) v 0 (λ p. omega (arith, p)) ∙ d.placed k b h) (λ h. get_or-set_same l (at + i) v 0 (omega (arith, d.size)));
-    }

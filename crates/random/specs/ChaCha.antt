@@ -1,5 +1,5 @@
 -- ChaCha (RFC 8439, sections 2.1 to 2.3), with the number of double rounds as a parameter, and the blocks of rule 2.2.
-use Rattle.std.specs.Prelude.{ℕ, zero, suc, ◌+◌, ◌/◌, ◌%◌, ◌^◌, ◌<◌, List, [], ◌∷◌, ◌++◌, bit_xor, slice_index, slice_set}
+use Rattle.std.specs.Prelude.{ℕ, zero, suc, ◌/◌, ◌%◌, ◌^◌, ◌<◌, List, [], ◌∷◌, ◌++◌, bit_xor, slice_index, slice_set}
 use Rattle.random.specs.Table.{tabulate}
 use Rattle.random.specs.Word.{plus, rotate_left}
 use Rattle.random.specs.declared.chacha.Quad.{Quad}

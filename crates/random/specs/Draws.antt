@@ -1,7 +1,8 @@
 -- The draws of a seed (rules 2.3 and 2.4).
-use Rattle.std.specs.Prelude.{◌≡◌, ℕ, ◌+◌, ◌*◌, ◌/◌, ◌%◌, ◌^◌, ◌<◌, List, length, ◌≢◌, slice_index}
+use Rattle.std.specs.Prelude.{◌≡◌, ℕ, ◌+◌, ◌*◌, ◌/◌, ◌%◌, ◌^◌, ◌≢◌, slice_index}
 use Rattle.random.specs.Seed.{key_of}
-use Rattle.random.specs.ChaCha.{key_size, block_size, stream_block}
+use Rattle.random.specs.ChaCha.{block_size, stream_block}
+use Rattle.random.specs.declared.draws.Stream.{Stream}
 
 -- word w of a seed's key stream: its blocks one after the other
 unfoldable pub stream_word : ℕ → ℕ → ℕ
@@ -15,20 +16,15 @@ draw seed k = stream_word seed (2 * k) + stream_word seed (2 * k + 1) * 2 ^ 32
 abbrev pub block_draws : ℕ
 block_draws = block_size / 2
 
--- The stream of a seed's draws has room for a key, and then for a block.
-abbrev pub stream_size : ℕ
-stream_size = key_size + block_size
-
 -- A stream holds the key of the seed.
-pub record Keyed (seed : ℕ) (w : List ℕ) : Type 0 where
-  pub size : length w ≡ stream_size
-  pub words : (i : ℕ) → i < key_size → slice_index w i ≡ slice_index (key_of seed) i
+abbrev pub Keyed : ℕ → Stream → Type 0
+Keyed seed s = s.key ≡ key_of seed
 
--- A stream holds block b of the seed, behind the key.
-abbrev pub HasBlock : ℕ → ℕ → List ℕ → Type 0
-HasBlock seed b w = (i : ℕ) → i < block_size → slice_index w (key_size + i) ≡ slice_index (stream_block (key_of seed) b) i
+-- A stream holds block b of the seed.
+abbrev pub HasBlock : ℕ → ℕ → Stream → Type 0
+HasBlock seed b s = s.block ≡ stream_block (key_of seed) b
 
 -- Draw n of a seed is next: the key is in hand, and, unless n is the first draw of its block, so is the block.
-pub record DrawNext (seed n : ℕ) (w : List ℕ) : Type 0 where
-  pub key : Keyed seed w
-  pub hand : (n % block_draws ≢ 0) → HasBlock seed (n / block_draws) w
+pub record DrawNext (seed n : ℕ) (s : Stream) : Type 0 where
+  pub key : Keyed seed s
+  pub hand : (n % block_draws ≢ 0) → HasBlock seed (n / block_draws) s

@@ -23,13 +23,13 @@ pub struct Quad {
 pub fn quarter_round(q: Quad) -> Quad
     ensures { result ≡ ChaCha.quarter q }
 {
-    let a1 = std::num::wrapping_add_u32(q.a, q.b);
+    let a1 = q.a.wrapping_add(q.b);
     let d1 = rotate_left(q.d ^ a1, 16);
-    let c1 = std::num::wrapping_add_u32(q.c, d1);
+    let c1 = q.c.wrapping_add(d1);
     let b1 = rotate_left(q.b ^ c1, 12);
-    let a2 = std::num::wrapping_add_u32(a1, b1);
+    let a2 = a1.wrapping_add(b1);
     let d2 = rotate_left(d1 ^ a2, 8);
-    let c2 = std::num::wrapping_add_u32(c1, d2);
+    let c2 = c1.wrapping_add(d2);
     let b2 = rotate_left(b1 ^ c2, 7);
     Quad {
         a: a2,
@@ -90,6 +90,7 @@ fn double_rounds(k: u32, s: [u32; BLOCK_SIZE]) -> [u32; BLOCK_SIZE]
     ensures { result ≡ ChaCha.double_rounds k s }
 {
     let mut t = s;
+    // So many times: nothing is gone through.
     for i in 0..k {
         t = diagonal_round(column_round(t));
     }
@@ -111,13 +112,14 @@ fn sums(a: [u32; BLOCK_SIZE], b: [u32; BLOCK_SIZE]) -> [u32; BLOCK_SIZE]
     ensures { result ≡ ChaCha.sums a b }
 {
     let mut t = [0u32; BLOCK_SIZE];
-    for i in 0..BLOCK_SIZE {
-        t[i] = std::num::wrapping_add_u32(a[i], b[i]);
+    for (i, word) in t.iter_mut().enumerate() {
+        *word = a[i].wrapping_add(b[i]);
     }
     t
 }
 
 // One block of sixteen words, after k double rounds. The last four words of its state are RFC 8439's counter and nonce.
+#[tactic(auto, unfolding(crate::specs::ChaCha::block))]
 pub fn block(k: u32, key: [u32; KEY_SIZE], last: [u32; 4]) -> [u32; BLOCK_SIZE]
     ensures { result ≡ ChaCha.block k key last }
 {

@@ -2,7 +2,7 @@
 ghost use Rattle.std.specs.Prelude.{◌≡◌};
 ghost use Rattle.random.specs.Reception.{fraction as fractionOf, Receives};
 
-use super::draws::{STREAM_SIZE, next_draw};
+use super::draws::Stream;
 
 // 2^-53.
 const FRACTION_STEP: f64 = 1.1102230246251565e-16;
@@ -15,11 +15,11 @@ pub fn fraction(draw: u64) -> f64
 }
 
 // One attempt, of number k, at a loss rate. Where the rate is 0, nothing is lost and no draw is taken.
-pub fn receive(rate: f64, stream: &mut [u32; STREAM_SIZE], k: u64) -> bool
+pub fn receive(rate: f64, stream: &mut Stream, k: u64) -> bool
     ensures { Receives rate k stream.old result stream.new }
 {
     if rate == 0.0 {
         return true;
     }
-    fraction(next_draw(stream, k)) >= rate
+    fraction(stream.next_draw(k)) >= rate
 }

@@ -3,19 +3,18 @@ ghost use Rattle.std.specs.Prelude.{◌≡◌};
 ghost use Rattle.random.specs.Seed.{next_state, key_word, key_of};
 
 use super::chacha::KEY_SIZE;
-use super::word::{rotate_right, wrapping_mul_u64};
+use super::word::rotate_right;
 
 // The state after s.
 fn next_state(s: u64) -> u64
     ensures { result ≡ next_state s }
 {
-    std::num::wrapping_add_u64(
-        wrapping_mul_u64(s, 6364136223846793005),
-        11634580027462260723,
-    )
+    s.wrapping_mul(6364136223846793005)
+        .wrapping_add(11634580027462260723)
 }
 
 // The key word that the state s gives.
+#[tactic(auto, unfolding(crate::specs::Seed::key_word))]
 fn key_word(s: u64) -> u32
     ensures { result ≡ key_word s }
 {
@@ -29,9 +28,9 @@ pub fn key_of(seed: u64) -> [u32; KEY_SIZE]
 {
     let mut key = [0u32; KEY_SIZE];
     let mut s = seed;
-    for i in 0..KEY_SIZE {
+    for word in &mut key {
         s = next_state(s);
-        key[i] = key_word(s);
+        *word = key_word(s);
     }
     key
 }
