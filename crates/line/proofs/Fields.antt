@@ -1,12 +1,18 @@
 -- The bytes before a stop, and the fields of a line, from a place on. Assumes nothing.
 use Prim.Native.Nat.{ℕ, zero, suc, ◌+◌, ◌-◌, ◌≤◌, ◌<◌}
-use mathlib.Core.Path.{◌≡◌, refl, ap}
+use mathlib.Core.Path.{◌≡◌, refl, sym, ap, ◌∙◌}
 use mathlib.Core.Bool.{Bool, true, false, cond}
 use mathlib.Core.List.{List, [], ◌∷◌}
 use native.Mathlib.Omega.{arith}
-use lib.Dec.{eqb}
-use lib.ListN.{length, get_or, take, drop, drop_of_length-le}
-use borrow.Author.Tests.{eq-eqb, ne_eqb}
+use lib.Dec.{eqb, ltb}
+use lib.ListN.{length, get_or, take, drop, drop_of_length-le, length-take}
+use Rattle.std.specs.List.{onto_first, position_or_len, slice_get, slice_split}
+use Rattle.std.specs.Option.{option_map, unwrap_or}
+use Rattle.std.proofs.lemmas.Option.{unwrap_or-slice_get}
+use Rattle.std.specs.Prelude.{Option, Some, None}
+use Rattle.std.proofs.lemmas.List.Sums.{prefix_len-le-length}
+use Rattle.std.proofs.lemmas.List.Recursion.{is_position_or_len}
+use borrow.Author.Tests.{eq-eqb, ne_eqb, ltb-false}
 use Rattle.text.proofs.Front.{front}
 use Rattle.line.specs.Line.{bytes_before, fields, prefixed}
 
@@ -20,23 +26,32 @@ take_before stop (b ∷ bs) = case (take_before stop bs) (eqb b stop)
     case e true = refl
     case e false = ap (λ l. b ∷ l) e
 
-module _ (stop : ℕ) (l : List ℕ) (i : ℕ) where
-  pub before_end : length l ≤ i → length (bytes_before stop (drop i l)) ≡ 0
-  unfolding bytes_before
-  before_end h = rw (drop_of_length-le l h)
+pub before_short : (stop : ℕ) (l : List ℕ) → length (bytes_before stop l) ≤ length l
+before_short stop l = rw (← take_before stop l) (omega (arith, length-take (length (bytes_before stop l)) l))
 
-  pub before_stop : i < length l → get_or l i 0 ≡ stop → length (bytes_before stop (drop i l)) ≡ 0
-  unfolding bytes_before
-  before_stop h e = rw (front l i h) (simp (eq-eqb _ _ e))
+-- a place that is given up where it is the end
+place_or_end : (k n : ℕ) → k ≤ n → unwrap_or (cond (ltb k n) (Some k) None) n ≡ k
+place_or_end k n h = case (ltb k n) refl
+  where
+    case : (t : Bool) → ltb k n ≡ t → unwrap_or (cond t (Some k) None) n ≡ k
+    case true e = refl
+    case false e = omega (arith, ltb-false k n e)
 
-  pub before_other : i < length l → (get_or l i 0 ≡ stop → ⊥) → length (bytes_before stop (drop i l)) ≡ suc (length (bytes_before stop (drop (i + 1) l)))
-  unfolding bytes_before
-  before_other h e = rw (front l i h) (simp (ne_eqb _ _ e))
-
-length_prefixed : (b : ℕ) (fs : List (List ℕ)) → length (prefixed b fs) ≡ length fs
-unfolding prefixed
-length_prefixed b [] = refl
-length_prefixed b (f ∷ fs) = refl
+-- the first stop by the library's word, or the end
+pub before_place :
+    (stop : ℕ) (l : List ℕ) →
+    unwrap_or (cond (ltb (position_or_len (λ b. eqb b stop) l) (length l)) (Some (position_or_len (λ b. eqb b stop) l)) None) (length l)
+    ≡ length (bytes_before stop l)
+unfolding bytes_before
+before_place stop l =
+    place_or_end _ _ (prefix_len-le-length _ l) ∙ sym (is_position_or_len (λ l. length (bytes_before stop l)) (λ b. eqb b stop) refl step l)
+  where
+    step : (b : ℕ) (bs : List ℕ) → length (bytes_before stop (b ∷ bs)) ≡ cond (eqb b stop) 0 (1 + length (bytes_before stop bs))
+    step b bs = case (eqb b stop)
+      where
+        case : (t : Bool) → length (cond t [] (b ∷ bytes_before stop bs)) ≡ cond t 0 (1 + length (bytes_before stop bs))
+        case true = refl
+        case false = omega arith
 
 later_prefixed : (b : ℕ) (fs : List (List ℕ)) (k : ℕ) → get_or (prefixed b fs) (suc k) [] ≡ get_or fs (suc k) []
 unfolding prefixed
@@ -54,6 +69,31 @@ fields_first (b ∷ bs) = case (fields_first bs) (eqb b 32)
     case e true = (fields bs, refl)
     case e false = (e.0, ap (prefixed b) e.1)
 
+onto_prefixed : (b : ℕ) (l : List ℕ) → onto_first b (fields l) ≡ prefixed b (fields l)
+unfolding prefixed
+onto_prefixed b l = rw (fields_first l).1
+
+-- the fields are what std's `split` gives
+pub fields_split : (l : List ℕ) → slice_split (λ b. eqb b 32) l ≡ fields l
+unfolding fields
+fields_split [] = refl
+fields_split (b ∷ bs) = case (fields_split bs) (eqb b 32)
+  where
+    case : slice_split (λ b. eqb b 32) bs ≡ fields bs → (t : Bool)
+        → cond t ([] ∷ slice_split (λ b. eqb b 32) bs) (onto_first b (slice_split (λ b. eqb b 32) bs)) ≡ cond t ([] ∷ fields bs) (prefixed b (fields bs))
+    case e true = ap (λ fs. [] ∷ fs) e
+    case e false = ap (onto_first b) e ∙ onto_prefixed b bs
+
+-- a field by what std's `nth` gives of the parts
+pub part_at : {A : Type 0} (now : A → List ℕ) (r : Option A) (d : A) (l : List ℕ) (k : ℕ)
+    → option_map now r ≡ slice_get (slice_split (λ b. eqb b 32) l) k → now d ≡ [] → now (unwrap_or r d) ≡ get_or (fields l) k []
+part_at {A = A} now r d l k e n =
+    read r ∙ rw (e, n) (unwrap_or-slice_get _ k []) ∙ ap (λ fs. get_or fs k []) (fields_split l)
+  where
+    read : (r : Option A) → now (unwrap_or r d) ≡ unwrap_or (option_map now r) (now d)
+    read None = refl
+    read (Some x) = refl
+
 pub first_field : (l : List ℕ) → bytes_before 32 l ≡ get_or (fields l) 0 []
 first_field l = rw (fields_first l).1
 
@@ -63,10 +103,6 @@ module _ (l : List ℕ) (i : ℕ) where
   fields_end h zero = rw (drop_of_length-le l h)
   fields_end h (suc k) = rw (drop_of_length-le l h)
 
-  pub count_end : length l ≤ i → length (fields (drop i l)) ≡ 1
-  unfolding fields
-  count_end h = rw (drop_of_length-le l h)
-
   module _ (in-line : i < length l) where
     fields_space : get_or l i 0 ≡ 32 → fields (drop i l) ≡ [] ∷ fields (drop (i + 1) l)
     unfolding fields
@@ -75,12 +111,6 @@ module _ (l : List ℕ) (i : ℕ) where
     fields_other : (get_or l i 0 ≡ 32 → ⊥) → fields (drop i l) ≡ prefixed (get_or l i 0) (fields (drop (i + 1) l))
     unfolding fields
     fields_other e = rw (front l i in-line) (simp (ne_eqb _ _ e))
-
-    pub count_space : get_or l i 0 ≡ 32 → length (fields (drop i l)) ≡ suc (length (fields (drop (i + 1) l)))
-    count_space e = rw (fields_space e)
-
-    pub count_other : (get_or l i 0 ≡ 32 → ⊥) → length (fields (drop i l)) ≡ length (fields (drop (i + 1) l))
-    count_other e = rw (fields_other e) (length_prefixed _ _)
 
     pub field_space : (k : ℕ) → (k ≡ 0 → ⊥) → get_or l i 0 ≡ 32 → get_or (fields (drop i l)) k [] ≡ get_or (fields (drop (i + 1) l)) (k - 1) []
     field_space zero n e = absurd (n refl)

@@ -2,7 +2,8 @@
 use Prim.Native.Nat.{ℕ, zero, suc, ◌+◌, ◌*◌, ◌≤◌, ◌<◌}
 use mathlib.Core.Path.{◌≡◌, refl, sym, ap, ◌∙◌}
 use mathlib.Core.Bool.{Bool, true, false, cond, ◌&&◌}
-use mathlib.Core.Option.{Option, none, some}
+use Rattle.std.specs.Prelude.{Option, Some, None, Result, Err}
+use Rattle.std.specs.Option.{ok_or}
 use mathlib.Core.List.{List, [], ◌∷◌}
 use native.Mathlib.Omega.{arith}
 use lib.Dec.{eqb, leb}
@@ -12,10 +13,8 @@ use borrow.Author.Count.{below_none, below_more}
 use borrow.Author.Tests.{eqb-true, leb-true, leb-false}
 use Rattle.line.specs.Line.{bytes_before, fields, prefixed, is_dash, slots_present, round_slots_of, ◌>>=◌, four_decimals, read_fields, read_line}
 use Rattle.text.specs.Numeral.{decimal, hexadecimal}
-use Rattle.line.specs.declared.read.Read.{Read}
-use Rattle.line.specs.declared.read.Read.TheVariants.{Unreadable}
-use Rattle.config.specs.declared.RoundSlots.{RoundSlots}
-use Rattle.config.specs.declared.RoundSlots.TheVariants.{Absent}
+use Rattle.line.specs.declared.read.Line.{Line}
+use Rattle.config.specs.declared.refusal.Refusal.{Refusal}
 use Rattle.line.proofs.Fields.{fields_first}
 
 -- the bytes of the fields, each with one more for the space or the end behind it
@@ -42,7 +41,7 @@ weight_short (f ∷ fs) h =
     omega (arith, head, weight_short fs (λ j b. h (suc j) (omega arith)))
 
 -- a field that is readable passed its tests
-guard : {A : Type 0} (b : Bool) (o : Option A) {a : A} → cond b o none ≡ some a → b ≡ true
+guard : {A : Type 0} (b : Bool) (o : Option A) {a : A} → cond b o None ≡ Some a → b ≡ true
 guard true o e = refl
 guard false o e = let z : ◌≡◌ {A = ℕ} 0 1 = cc in absurd (omega arith)
 
@@ -50,11 +49,11 @@ both : (a b : Bool) → (a && b) ≡ true → (a ≡ true) × (b ≡ true)
 both true b e = (refl, e)
 both false b e = let z : ◌≡◌ {A = ℕ} 0 1 = cc in absurd (omega arith)
 
-decimal_short : (t : List ℕ) {n : ℕ} → decimal t ≡ some n → length t ≤ 20
+decimal_short : (t : List ℕ) {n : ℕ} → decimal t ≡ Some n → length t ≤ 20
 unfolding decimal
 decimal_short t e = leb-true (length t) 20 (both (leb 1 (length t)) (leb (length t) 20) (guard _ _ e)).1
 
-hexadecimal_short : (t : List ℕ) {n : ℕ} → hexadecimal t ≡ some n → length t ≤ 20
+hexadecimal_short : (t : List ℕ) {n : ℕ} → hexadecimal t ≡ Some n → length t ≤ 20
 unfolding hexadecimal
 hexadecimal_short t e = omega (arith, eqb-true (length t) 16 (guard _ _ e))
 
@@ -62,33 +61,32 @@ dash_short : (t : List ℕ) → is_dash t ≡ true → length t ≤ 20
 unfolding is_dash
 dash_short t e = omega (arith, eqb-true (length t) 1 (both (eqb (length t) 1) _ e).0)
 
-slots_short : (t : List ℕ) {s : RoundSlots} → round_slots_of t ≡ some s → length t ≤ 20
+slots_short : (t : List ℕ) {s : Option ℕ} → round_slots_of t ≡ Some s → length t ≤ 20
 unfolding round_slots_of
 slots_short t {s} e = case (is_dash t) refl e
   where
-    number : (o : Option ℕ) → slots_present o ≡ some s → (n : ℕ) × (o ≡ some n)
-    number none e = let z : ◌≡◌ {A = ℕ} 0 1 = cc in absurd (omega arith)
-    number (some n) e = (n, refl)
+    number : (o : Option ℕ) → slots_present o ≡ Some s → (n : ℕ) × (o ≡ Some n)
+    number None e = let z : ◌≡◌ {A = ℕ} 0 1 = cc in absurd (omega arith)
+    number (Some n) e = (n, refl)
 
-    case : (b : Bool) → is_dash t ≡ b → cond b (some Absent) (slots_present (decimal t)) ≡ some s → length t ≤ 20
+    case : (b : Bool) → is_dash t ≡ b → cond b (Some None) (slots_present (decimal t)) ≡ Some s → length t ≤ 20
     case true q e = dash_short t q
     case false q e = decimal_short t (number (decimal t) e).1
 
 -- a field that is readable, and what follows it
-field : {A : Type 0} (o : Option A) (k : A → Read) → ((a : A) → o ≡ some a → k a ≡ Unreadable) → (o >>= k) ≡ Unreadable
-unfolding ◌>>=◌
-field none k h = refl
-field (some a) k h = h a refl
+field : {A : Type 0} (o : Option A) (k : A → Option Line) → ((a : A) → o ≡ Some a → k a ≡ None) → (o >>= k) ≡ None
+field None k h = refl
+field (Some a) k h = h a refl
 
-four : (fs : List (List ℕ)) (k : ℕ) (next : ℕ → ℕ → ℕ → ℕ → Read)
-    → ((a b c d : ℕ) → Short fs k → Short fs (k + 1) → Short fs (k + 2) → Short fs (k + 3) → next a b c d ≡ Unreadable)
-    → four_decimals fs k next ≡ Unreadable
+four : (fs : List (List ℕ)) (k : ℕ) (next : ℕ → ℕ → ℕ → ℕ → Option Line)
+    → ((a b c d : ℕ) → Short fs k → Short fs (k + 1) → Short fs (k + 2) → Short fs (k + 3) → next a b c d ≡ None)
+    → four_decimals fs k next ≡ None
 unfolding four_decimals
 four fs k next h =
     field _ _ λ a p. field _ _ λ b q. field _ _ λ c r. field _ _ λ d s.
     h a b c d (decimal_short _ p) (decimal_short _ q) (decimal_short _ r) (decimal_short _ s)
 
-long_fields : (fs : List (List ℕ)) → length fs ≡ 10 → 210 < weight fs → read_fields fs ≡ Unreadable
+long_fields : (fs : List (List ℕ)) → length fs ≡ 10 → 210 < weight fs → read_fields fs ≡ None
 unfolding read_fields
 long_fields fs ten h =
     four fs 0 _ λ _ _ _ _ s0 s1 s2 s3.
@@ -102,14 +100,15 @@ long_fields fs ten h =
     absurd (omega (arith, weight_short fs (λ j b. all j (omega arith))))
 
 -- what a line is read as
-abbrev readable : List ℕ → Read
-readable l = cond (eqb (length (fields l)) 10) (read_fields (fields l)) Unreadable
+abbrev readable : List ℕ → Result Line Refusal
+readable l = cond (eqb (length (fields l)) 10) (ok_or (read_fields (fields l)) Refusal.UnreadableLine) (Err Refusal.UnreadableLine)
 
-long_line : (l : List ℕ) → 210 ≤ length l → readable l ≡ Unreadable
+long_line : (l : List ℕ) → 210 ≤ length l → readable l ≡ Err Refusal.UnreadableLine
 long_line l h = case (eqb (length (fields l)) 10) refl
   where
-    case : (t : Bool) → eqb (length (fields l)) 10 ≡ t → cond t (read_fields (fields l)) Unreadable ≡ Unreadable
-    case true e = long_fields (fields l) (eqb-true _ 10 e) (omega (arith, weight_fields l))
+    case : (t : Bool) → eqb (length (fields l)) 10 ≡ t
+        → cond t (ok_or (read_fields (fields l)) Refusal.UnreadableLine) (Err Refusal.UnreadableLine) ≡ Err Refusal.UnreadableLine
+    case true e = rw (long_fields (fields l) (eqb-true _ 10 e) (omega (arith, weight_fields l)))
     case false e = refl
 
 -- the line in the first n bytes of an input

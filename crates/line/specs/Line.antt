@@ -1,16 +1,10 @@
 -- The program's line (rules 10.1 to 10.4): topology, first, second, repeats, round slots or `-`, loss as 16 hexadecimal digits, seed, P,
 -- interval and slot limit, with single spaces between them. It ends at the first newline or the end of the input.
-use Rattle.std.specs.Prelude.{ℕ, ◌+◌, Bool, cond, ◌&&◌, List, [], ◌∷◌, eqb, length, get_or}
-use Rattle.std.proofs.Math.Option.{Option, none, some}
+use Rattle.std.specs.Prelude.{ℕ, ◌+◌, Bool, cond, ◌&&◌, List, [], ◌∷◌, eqb, length, get_or, Option, Some, None, Result, Err}
+use Rattle.std.specs.Option.{ok_or}
+use Rattle.config.specs.declared.refusal.Refusal.{Refusal}
 use Rattle.text.specs.Numeral.{decimal, hexadecimal}
-use Rattle.config.specs.declared.RoundSlots.{RoundSlots}
-use Rattle.config.specs.declared.RoundSlots.TheVariants.{Absent, Of}
-use Rattle.line.specs.declared.read.SlotsField.{SlotsField}
-use Rattle.line.specs.declared.read.SlotsField.TheVariants.{Of as SlotsField-as-Of, Unreadable as SlotsField-as-Unreadable}
-use Rattle.line.specs.declared.read.Four.{Four}
-use Rattle.line.specs.declared.read.Four.TheVariants.{Of as Four-as-Of, Unreadable as Four-as-Unreadable}
-use Rattle.line.specs.declared.read.Read.{Read}
-use Rattle.line.specs.declared.read.Read.TheVariants.{Line as Read-as-Line, Unreadable}
+use Rattle.line.specs.declared.read.Line.{Line}
 
 -- how many fields a line has
 abbrev pub line_fields : ℕ
@@ -44,22 +38,22 @@ fields (b ∷ bs) = cond (eqb b space) ([] ∷ fields bs) (prefixed b (fields bs
 unfoldable pub is_dash : List ℕ → Bool
 is_dash t = eqb (length t) 1 && eqb (get_or t 0 0) dash
 
-abbrev pub slots_present : Option ℕ → Option RoundSlots
-slots_present none = none
-slots_present (some n) = some (Of n)
+abbrev pub slots_present : Option ℕ → Option (Option ℕ)
+slots_present None = None
+slots_present (Some n) = Some (Some n)
 
 -- `-` where the round slots are absent, else a decimal
-unfoldable pub round_slots_of : List ℕ → Option RoundSlots
-round_slots_of t = cond (is_dash t) (some Absent) (slots_present (decimal t))
+unfoldable pub round_slots_of : List ℕ → Option (Option ℕ)
+round_slots_of t = cond (is_dash t) (Some None) (slots_present (decimal t))
 
 -- go on with a field that is readable
-unfoldable pub ◌>>=◌ : {A : Type 0} → Option A → (A → Read) → Read
-none >>= k = Unreadable
-some a >>= k = k a
+abbrev pub ◌>>=◌ : {A : Type 0} → Option A → (A → Option Line) → Option Line
+None >>= k = None
+Some a >>= k = k a
 
 infixl 10 ◌>>=◌
 -- four decimals from field k on, and what is made of them
-unfoldable pub four_decimals : List (List ℕ) → ℕ → (ℕ → ℕ → ℕ → ℕ → Read) → Read
+unfoldable pub four_decimals : List (List ℕ) → ℕ → (ℕ → ℕ → ℕ → ℕ → Option Line) → Option Line
 four_decimals fs k next = do
   a ← decimal (get_or fs k [])
   b ← decimal (get_or fs (k + 1) [])
@@ -68,13 +62,13 @@ four_decimals fs k next = do
   next a b c d
 
 -- the ten fields, each of its kind
-unfoldable pub read_fields : List (List ℕ) → Read
+unfoldable pub read_fields : List (List ℕ) → Option Line
 read_fields fs =
     four_decimals fs 0 λ topology first second repeats.
     round_slots_of (get_or fs 4 []) >>= λ slots.
     hexadecimal (get_or fs 5 []) >>= λ loss.
     four_decimals fs 6 λ seed proposals interval limit.
-    Read-as-Line (record {
+    Some (record {
       topology = topology;
       first = first;
       second = second;
@@ -88,15 +82,7 @@ read_fields fs =
     })
 
 -- what the input asks for
-unfoldable pub read_line : List ℕ → Read
-read_line input = let fs = fields (bytes_before newline input) in cond (eqb (length fs) line_fields) (read_fields fs) Unreadable
-
--- what the reader of the round slots answers
-abbrev pub slots_of : SlotsField → Option RoundSlots
-slots_of (SlotsField-as-Of s) = some s
-slots_of SlotsField-as-Unreadable = none
-
--- what is made of the answer of the reader of four decimals
-abbrev pub four_of : Four → (ℕ → ℕ → ℕ → ℕ → Read) → Read
-four_of (Four-as-Of a b c d) next = next a b c d
-four_of Four-as-Unreadable next = Unreadable
+unfoldable pub read_line : List ℕ → Result Line Refusal
+read_line input =
+    let fs = fields (bytes_before newline input) in
+    cond (eqb (length fs) line_fields) (ok_or (read_fields fs) Refusal.UnreadableLine) (Err Refusal.UnreadableLine)

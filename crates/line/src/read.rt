@@ -1,11 +1,9 @@
 // The program's line: ten fields, separated by single spaces.
-ghost use Rattle.std.specs.Prelude.{◌≡◌, [], ℕ, ◌≤◌, length, drop, get_or};
-ghost use Rattle.line.specs.Line.{bytes_before, fields, four_decimals, four_of, is_dash, read_fields, read_line, round_slots_of, slots_of, space};
-ghost use Rattle.text.specs.Numeral.{number_of};
-ghost use Rattle.text.specs.Numeral.{decimal as Numeral·decimal, hexadecimal as Numeral·hexadecimal};
+ghost use Rattle.std.specs.Prelude.{◌≡◌, [], ◌≤◌, length, drop, get_or};
+ghost use Rattle.line.specs.Line.{bytes_before, fields, is_dash, read_fields, read_line, round_slots_of, space};
 
-use config::RoundSlots;
-use text::numeral::{Number, decimal, hexadecimal};
+use config::refusal::Refusal;
+use text::numeral::{decimal, hexadecimal};
 
 // How many fields a line has.
 const LINE_FIELDS: usize = 10;
@@ -17,7 +15,7 @@ pub struct Line {
     pub first: u64,
     pub second: u64,
     pub repeats: u64,
-    pub round_slots: RoundSlots,
+    pub round_slots: Option<u64>,
     pub loss: u64,
     pub seed: u64,
     pub proposals: u64,
@@ -25,41 +23,15 @@ pub struct Line {
     pub limit: u64,
 }
 
-#[derive(Clone, Copy)]
-pub enum Read {
-    Line(Line),
-    Unreadable,
-}
-
-// What the field of the round slots stands for.
-#[derive(Clone, Copy)]
-enum SlotsField {
-    Of(RoundSlots),
-    Unreadable,
-}
-
-// What four fields with decimals stand for.
-#[derive(Clone, Copy)]
-enum Four {
-    Of(u64, u64, u64, u64),
-    Unreadable,
-}
-
 // How many bytes stand before the first `stop`: all of them where there is none.
 pub fn until(s: &[u8], stop: u8) -> usize
     ensures { (result ≡ length (bytes_before stop s.now)) × (result ≤ length s.now) }
 {
-    let mut i = 0;
-    while i < s.len() {
-        if s[i] == stop {
-            return i;
-        }
-        i += 1;
-    }
-    i
+    s.iter().position(|&byte| byte == stop).unwrap_or(s.len())
 }
 
 // The bytes before the first `stop`.
+#[tactic(auto, using(crate::proofs::Fields::take_before))]
 fn part_before(s: &[u8], stop: u8) -> &[u8]
     ensures { result.now ≡ bytes_before stop s.now }
 {
@@ -67,147 +39,84 @@ fn part_before(s: &[u8], stop: u8) -> &[u8]
     &s[..end]
 }
 
-// How many fields a line has.
+// How many fields there are in a line.
 fn field_count(line: &[u8]) -> usize
     ensures { result ≡ length (fields line.now) }
 {
-    let mut n = 1;
-    let mut i = 0;
-    while i < line.len() {
-        if line[i] == b' ' {
-            n += 1;
-        }
-        i += 1;
-    }
-    n
+    line.split(|&byte| byte == b' ').count()
 }
 
-// Where field k starts: behind the k-th space, or the line's end.
+// Where field k starts: behind the k-th space, or the line's end. What stands from there on may itself have spaces, so it is
+// not a field.
+#[tactic(auto, using(crate::proofs::Fields::first_field, crate::proofs::Fields::fields_end, crate::proofs::Fields::field_space, crate::proofs::Fields::field_other))]
 pub fn field_start(line: &[u8], k: usize) -> usize
     ensures { (result ≤ length line.now) × (bytes_before space (drop result line.now) ≡ get_or (fields line.now) k []) }
 {
     let mut left = k;
-    let mut at = 0;
-    while at < line.len() {
+    for (at, &byte) in line.iter().enumerate() {
         if left == 0 {
             return at;
         }
-        if line[at] == b' ' {
+        if byte == b' ' {
             left -= 1;
         }
-        at += 1;
     }
-    at
+    line.len()
 }
 
 // Field k of a line.
 pub fn field(line: &[u8], k: usize) -> &[u8]
     ensures { result.now ≡ get_or (fields line.now) k [] }
 {
-    let start = field_start(line, k);
-    part_before(&line[start..], b' ')
-}
-
-fn decimal_field(line: &[u8], k: usize) -> Number
-    ensures { number_of result ≡ Numeral·decimal (get_or (fields line.now) k []) }
-{
-    decimal(field(line, k))
-}
-
-fn loss_field(line: &[u8], k: usize) -> Number
-    ensures { number_of result ≡ Numeral·hexadecimal (get_or (fields line.now) k []) }
-{
-    hexadecimal(field(line, k))
+    line.split(|&byte| byte == b' ').nth(k).unwrap_or(&[])
 }
 
 // Whether a text is `-`.
+#[tactic(auto, unfolding(crate::specs::Line::is_dash))]
 fn is_dash(text: &[u8]) -> bool
     ensures { result ≡ is_dash text.now }
 {
-    if text.len() == 1 {
-        return text[0] == b'-';
-    }
-    false
+    matches!(text, [b'-'])
 }
 
 // The round slots: `-` where they are absent, else a decimal.
 #[tactic(auto, unfolding(crate::specs::Line::round_slots_of))]
-fn round_slots(text: &[u8]) -> SlotsField
-    ensures { slots_of result ≡ round_slots_of text.now }
+fn round_slots(text: &[u8]) -> Option<Option<u64>>
+    ensures { result ≡ round_slots_of text.now }
 {
     if is_dash(text) {
-        return SlotsField::Of(RoundSlots::Absent);
+        return Some(None);
     }
-    match decimal(text) {
-        Number::Of(n) => SlotsField::Of(RoundSlots::Of(n)),
-        Number::Unreadable => SlotsField::Unreadable,
-    }
-}
-
-fn round_slots_field(line: &[u8], k: usize) -> SlotsField
-    ensures { slots_of result ≡ round_slots_of (get_or (fields line.now) k []) }
-{
-    round_slots(field(line, k))
-}
-
-// Four decimals from field k on.
-fn four_decimals(line: &[u8], k: usize) -> Four
-    requires { k ≤ 6 }
-    ensures { (next : ℕ → ℕ → ℕ → ℕ → Read) → four_decimals (fields line.now) k next ≡ four_of result next }
-{
-    let Number::Of(a) = decimal_field(line, k) else {
-        return Four::Unreadable;
-    };
-    let Number::Of(b) = decimal_field(line, k + 1) else {
-        return Four::Unreadable;
-    };
-    let Number::Of(c) = decimal_field(line, k + 2) else {
-        return Four::Unreadable;
-    };
-    let Number::Of(d) = decimal_field(line, k + 3) else {
-        return Four::Unreadable;
-    };
-    Four::Of(a, b, c, d)
+    decimal(text).map(Some)
 }
 
 // What the ten fields of a line stand for.
-fn read_fields(line: &[u8]) -> Read
+#[tactic(auto, unfolding(crate::specs::Line::read_fields, crate::specs::Line::four_decimals))]
+fn read_fields(line: &[u8]) -> Option<Line>
     ensures { result ≡ read_fields (fields line.now) }
 {
-    let Four::Of(topology, first, second, repeats) = four_decimals(line, 0) else {
-        return Read::Unreadable;
-    };
-    let SlotsField::Of(round_slots) = round_slots_field(line, 4) else {
-        return Read::Unreadable;
-    };
-    let Number::Of(loss) = loss_field(line, 5) else {
-        return Read::Unreadable;
-    };
-    let Four::Of(seed, proposals, interval, limit) = four_decimals(line, 6) else {
-        return Read::Unreadable;
-    };
-    Read::Line(Line {
-        topology,
-        first,
-        second,
-        repeats,
-        round_slots,
-        loss,
-        seed,
-        proposals,
-        interval,
-        limit,
+    Some(Line {
+        topology: decimal(field(line, 0))?,
+        first: decimal(field(line, 1))?,
+        second: decimal(field(line, 2))?,
+        repeats: decimal(field(line, 3))?,
+        round_slots: round_slots(field(line, 4))?,
+        loss: hexadecimal(field(line, 5))?,
+        seed: decimal(field(line, 6))?,
+        proposals: decimal(field(line, 7))?,
+        interval: decimal(field(line, 8))?,
+        limit: decimal(field(line, 9))?,
     })
 }
 
 // Reads the line that ends at the first newline or the end of the input.
 #[tactic(auto, unfolding(crate::specs::Line::read_line))]
-pub fn read_line(input: &[u8]) -> Read
+pub fn read_line(input: &[u8]) -> Result<Line, Refusal>
     ensures { result ≡ read_line input.now }
 {
     let line = part_before(input, b'\n');
-    if field_count(line) == LINE_FIELDS {
-        return read_fields(line);
+    if field_count(line) != LINE_FIELDS {
+        return Err(Refusal::UnreadableLine);
     }
-    Read::Unreadable
+    read_fields(line).ok_or(Refusal::UnreadableLine)
 }

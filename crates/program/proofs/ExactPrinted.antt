@@ -12,11 +12,10 @@ use Rattle.network.specs.declared.topology.Topology.TheVariants.{Line}
 use Rattle.network.proofs.Checks.{joined_agree}
 use Rattle.network.proofs.Rows.{get_d_widened}
 use Rattle.network.proofs.Topologies.{rows_checked, rows_joined}
-use Rattle.config.specs.declared.RoundSlots.{RoundSlots}
 use Rattle.metrics.specs.declared.summary.Summary.{Summary}
 use Rattle.config.specs.Limits.{log_size, records_size}
 use Rattle.config.specs.declared.Config.{Config}
-use Rattle.rules.specs.declared.answer.Answer.TheVariants.{Ran}
+use Rattle.std.specs.Prelude.{None, Ok}
 use Rattle.rules.specs.Networks.{of_topology}
 use Rattle.rules.specs.ExactRounds.{Suited, NoneLost, ExactRounds}
 use Rattle.rules.proofs.ExactRounds.{exact_rounds}
@@ -42,7 +41,7 @@ abbrev pub printed : Config
 printed =
     record {
       flood_repeats = 1;
-      round_slots = RoundSlots.Absent;
+      round_slots = None;
       loss_rate = fin false 0 (pos 0);
       seed = 7;
       num_proposals = 1;
@@ -72,7 +71,7 @@ summary =
       snapshots = 3;
     }
 
-printed_answer : (outcome_for (of_topology 2 3 0) printed (replicate log_size 0) (replicate records_size 0) []).answer ≡ Ran summary
+printed_answer : (outcome_for (of_topology 2 3 0) printed (replicate log_size 0) (replicate records_size 0) []).answer ≡ Ok summary
 unfolding has set_of any all count linked widened spread reaches first_with distance links greatest eccentricity diameter topology_row topology_rows fraction heard_at tabulate tick transition among receivers insert attempt attempt_all snapshots_with flatten take_one take_while ticked snapshot tries_in moved slot_step begun slots delivered participants coverage round same_packet union_in union size logged hold hold_new merge_votes_up_to greatest_quorum commit_term commit_below newly_below commit_to newly_to gap_in detect_gap find recovery announce initiator_turn take_data take_piggyback take_votes participant_turn rate_allowed run_refusal_for recorded record_all prepare_round take_turn turns process_round shortest_from run_round complete end_after rounds_from run_for sum_of logs_with record_numbers ran_with outcome_for ones_in Ieee.le
 printed_answer = refl
 

@@ -2,7 +2,7 @@
 use Prim.Native.Nat.{ℕ, ◌+◌, ◌-◌, ◌/◌, ◌^◌, ◌≤◌}
 use mathlib.Core.Bool.{Bool, true, false, cond}
 use mathlib.Core.List.{List, flatten}
-use mathlib.Core.Option.{Option, none, some}
+use Rattle.std.specs.Prelude.{Option, Some, None, Ok}
 use mathlib.Core.Path.{◌≡◌, refl, sym, ap, ◌∙◌}
 use native.Mathlib.Nat.{add-suc}
 use borrow.Author.Tests.{le-leb, lt-leb}
@@ -26,11 +26,11 @@ use Rattle.protocol.specs.Paxos.{union, size, logged, hold, hold_new, merge_vote
 use Rattle.protocol.specs.Turns.{announce, initiator_turn, take_data, take_piggyback, take_votes, participant_turn}
 use Rattle.protocol.proofs.Starred.{starred}
 use Rattle.text.specs.Text.{ascii, spelled_in, spelled, each}
-use Rattle.line.specs.Line.{bytes_before, prefixed, fields, is_dash, round_slots_of, ◌>>=◌, four_decimals, read_fields, read_line}
+use Rattle.line.specs.Line.{bytes_before, prefixed, fields, is_dash, round_slots_of, four_decimals, read_fields, read_line}
 use Rattle.listing.specs.Listing.{labelled, line_with, run_line, radio_line, link_line, proposal_line, snapshot_line, term_text, log_line, listing}
 use Rattle.text.specs.Numeral.{digit, all_digits, append, numeral, decimal, hexadecimal}
 use Rattle.metrics.specs.declared.summary.Summary.{Summary}
-use Rattle.rules.specs.declared.answer.Answer.TheVariants.{Ran}
+use Rattle.config.specs.declared.refusal.Refusal.{Refusal}
 use Rattle.config.specs.Limits.{log_size, records_size}
 use Rattle.config.specs.declared.Config.{Config}
 use Rattle.rules.specs.Entries.{logs_with, record_numbers, summary_of, ran_with, outcome_of, given_for, outcome_for, run_of_topology}
@@ -59,15 +59,15 @@ module _ (seed interval limit : ℕ) (h : 1 ≤ interval) (l : 1 ≤ limit) wher
   unfolding run_for end_after complete all
   one_round = from_end given 1001 0 (begin given) (lt-leb limit 0 l) refl
 
-  passes : run_refusal_for (of_topology 3 4 0) (idle_config seed interval limit) log_size records_size ≡ none
+  passes : run_refusal_for (of_topology 3 4 0) (idle_config seed interval limit) log_size records_size ≡ None
   unfolding run_refusal_for rate_allowed Ieee.le of_bits
-  passes = ap (λ (b : Bool). cond b none (some 9)) (le-leb 1 interval h)
+  passes = ap (λ (b : Bool). cond b None (Some Refusal.ZeroInterval)) (le-leb 1 interval h)
 
-  answered : (run_of_topology 3 4 0 (idle_config seed interval limit) (replicate log_size 0) (replicate records_size 0) buffer).answer ≡ Ran (summary_of given last)
+  answered : (run_of_topology 3 4 0 (idle_config seed interval limit) (replicate log_size 0) (replicate records_size 0) buffer).answer ≡ Ok (summary_of given last)
   unfolding outcome_for ran_with
   answered =
-      ap (λ (o : Option ℕ). (outcome_of o given (replicate log_size 0) (replicate records_size 0) buffer).answer) passes
-      ∙ ap (λ (e : Ended). Ran (summary_of given e)) one_round
+      ap (λ (o : Option Refusal). (outcome_of o given (replicate log_size 0) (replicate records_size 0) buffer).answer) passes
+      ∙ ap (λ (e : Ended). Ok (summary_of given e)) one_round
 
   star : StarRun (run_of_topology 3 4 0 (idle_config seed interval limit) (replicate log_size 0) (replicate records_size 0) buffer).answer
   unfolding has set_of any all count linked widened links greatest eccentricity diameter topology_row topology_rows heard_at tabulate tick
@@ -92,15 +92,15 @@ no_round g e =
     ap (λ (m : ℕ). rounds_from g m 0 (begin g)) (add-suc g.proposals 1001)
     ∙ from_limit g (g.proposals + 1001) 0 (begin g) (ap (λ (x : ℕ). leb x 0) e)
 
-no_round_of : (o : Option ℕ) (g : Given) (logs records snapshots : List ℕ) (s : Summary) → g.limit ≡ 0
-    → (outcome_of o g logs records snapshots).answer ≡ Ran s → (s.rounds ≡ 0) × (s.ended ≡ 4)
+no_round_of : (o : Option Refusal) (g : Given) (logs records snapshots : List ℕ) (s : Summary) → g.limit ≡ 0
+    → (outcome_of o g logs records snapshots).answer ≡ Ok s → (s.rounds ≡ 0) × (s.ended ≡ 4)
 no_round_of o g logs records snapshots s z e =
     let same : s ≡ summary_of g (record { running = begin g; ended = 4 }) =
     sym (ran_so o g logs records snapshots s e).1 ∙ ap (summary_of g) (no_round g z) in
     (ap (λ (x : Summary). x.rounds) same, ap (λ (x : Summary). x.ended) same)
 
 limit_0 : (q : RowsOrTopology) (c : Config) (logs records snapshots : List ℕ) (s : Summary) → c.max_slots ≡ 0
-    → (outcome_for q c logs records snapshots).answer ≡ Ran s → (s.rounds ≡ 0) × (s.ended ≡ 4)
+    → (outcome_for q c logs records snapshots).answer ≡ Ok s → (s.rounds ≡ 0) × (s.ended ≡ 4)
 unfolding outcome_for
 limit_0 q c logs records snapshots s z e = no_round_of (run_refusal_for q c (length logs) (length records)) (given_for q c) logs records snapshots s z e
 
@@ -120,7 +120,7 @@ unfolding has all count linked widened greatest eccentricity diameter topology_r
     coverage round same_packet union size logged hold hold_new merge_votes_up_to greatest_quorum commit_term commit_below newly_below commit_to newly_to
     gap_in detect_gap find recovery announce initiator_turn take_data take_piggyback take_votes participant_turn rate_allowed run_refusal_for recorded
     record_all prepare_round take_turn turns process_round shortest_from run_round complete end_after rounds_from run_for sum_of logs_with record_numbers ran_with
-    outcome_for Ieee.le of_bits ascii bytes_before prefixed fields is_dash round_slots_of ◌>>=◌ four_decimals read_fields read_line digit all_digits append
+    outcome_for Ieee.le of_bits ascii bytes_before prefixed fields is_dash round_slots_of four_decimals read_fields read_line digit all_digits append
     numeral decimal hexadecimal spelled_in spelled labelled line_with each run_line radio_line link_line proposal_line snapshot_line term_text log_line listing line_text
     printed
 starred_runs =

@@ -9,13 +9,15 @@ use Rattle.config.specs.declared.Config.{Config}
 use Rattle.line.specs.declared.read.Line.{Line}
 use Rattle.line.specs.Configured.{config_of}
 use Rattle.text.specs.Overlay.{Written}
-use Rattle.rules.specs.declared.answer.Answer.{Answer}
+use Rattle.std.specs.Prelude.{Result}
+use Rattle.config.specs.declared.refusal.Refusal.{Refusal}
+use Rattle.metrics.specs.declared.summary.Summary.{Summary}
 use Rattle.rules.specs.Answers.{outcome}
 use Rattle.rules.specs.Entries.{run_of_topology}
 use Rattle.program.specs.Printed.{answer_text, outcome_text, line_text}
 
 -- what the program writes for a line
-pub line_text_lem : (l : Line) (c : Config) (a : Answer) (logs records snapshots : List ℕ) → c ≡ config_of l →
+pub line_text_lem : (l : Line) (c : Config) (a : Result Summary Refusal) (logs records snapshots : List ℕ) → c ≡ config_of l →
     outcome a logs records snapshots ≡ run_of_topology l.topology l.first l.second c (replicate log_size 0) (replicate records_size 0) (replicate 5000 0) →
     answer_text a logs records snapshots ≡ line_text l
 unfolding line_text

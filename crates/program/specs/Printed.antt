@@ -1,20 +1,19 @@
 -- What the program writes for what it reads (rules 9.3, 10.1 and 11.2).
-use Rattle.std.specs.Prelude.{ℕ, List, replicate}
+use Rattle.std.specs.Prelude.{ℕ, List, replicate, Result, Ok, Err}
 use Rattle.config.specs.Limits.{log_size, records_size, listed_size}
+use Rattle.config.specs.Refusals.{number_of}
+use Rattle.config.specs.declared.refusal.Refusal.{Refusal}
 use Rattle.line.specs.declared.read.Line.{Line}
-use Rattle.line.specs.declared.read.Read.{Read}
-use Rattle.line.specs.declared.read.Read.TheVariants.{Line as Read-as-Line, Unreadable}
 use Rattle.line.specs.Configured.{config_of}
 use Rattle.line.specs.Line.{read_line}
 use Rattle.listing.specs.Listing.{listing, refusal_text}
-use Rattle.rules.specs.declared.answer.Answer.{Answer}
-use Rattle.rules.specs.declared.answer.Answer.TheVariants.{Ran, Refused}
+use Rattle.metrics.specs.declared.summary.Summary.{Summary}
 use Rattle.rules.specs.Entries.{Outcome, run_of_topology}
 
 -- `refused N`, or the listing of the run and its buffers
-abbrev pub answer_text : Answer → List ℕ → List ℕ → List ℕ → List ℕ
-answer_text (Ran s) logs records snapshots = listing s records snapshots logs
-answer_text (Refused k) logs records snapshots = refusal_text k
+abbrev pub answer_text : Result Summary Refusal → List ℕ → List ℕ → List ℕ → List ℕ
+answer_text (Ok s) logs records snapshots = listing s records snapshots logs
+answer_text (Err r) logs records snapshots = refusal_text (number_of r)
 
 abbrev pub outcome_text : Outcome → List ℕ
 outcome_text o = answer_text o.answer o.logs o.records o.snapshots
@@ -26,9 +25,9 @@ line_text l =
     (run_of_topology l.topology l.first l.second (config_of l) (replicate log_size 0) (replicate records_size 0) (replicate listed_size 0))
 
 -- question 12: is the line readable?
-abbrev pub read_text : Read → List ℕ
-read_text (Read-as-Line l) = line_text l
-read_text Unreadable = refusal_text 12
+abbrev pub read_text : Result Line Refusal → List ℕ
+read_text (Ok l) = line_text l
+read_text (Err r) = refusal_text (number_of r)
 
 -- the answer to these bytes of input
 unfoldable pub printed : List ℕ → List ℕ

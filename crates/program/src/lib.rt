@@ -5,12 +5,12 @@ ghost use Rattle.listing.specs.Listing.{listing_most};
 ghost use Rattle.text.specs.Overlay.{Written};
 ghost use Rattle.program.specs.Printed.{line_text, printed};
 
+use config::Config;
 use config::limits::{LISTED_SIZE, LOG_SIZE, RECORDS_SIZE};
-use line::configured::config_of;
-use line::read::{Line, Read, read_line};
+use line::read::{Line, read_line};
 use listing::write::{write_listing, write_refusal};
-use rules::answer::Answer;
-use sim::entries::run_topology;
+use rules::networks::Asked;
+use sim::entries::run;
 
 // Runs the topology that a line asks for, and lays its listing or refusal over the buffer.
 fn answer_line(line: Line, out: &mut [u8]) -> usize
@@ -19,19 +19,11 @@ fn answer_line(line: Line, out: &mut [u8]) -> usize
     let mut logs = [0u8; LOG_SIZE];
     let mut records = [0u64; RECORDS_SIZE];
     let mut snapshots = [0u64; LISTED_SIZE];
-    let config = config_of(line);
-    let answer = run_topology(
-        line.topology,
-        line.first,
-        line.second,
-        config,
-        &mut logs,
-        &mut records,
-        &mut snapshots,
-    );
-    match answer {
-        Answer::Ran(summary) => write_listing(summary, &records, &snapshots, &logs, out),
-        Answer::Refused(k) => write_refusal(k, out),
+    let asked = Asked::Topology(line.topology, line.first, line.second);
+    let config = Config::from(line);
+    match run(asked, config, &mut logs, &mut records, &mut snapshots) {
+        Ok(summary) => write_listing(summary, &records, &snapshots, &logs, out),
+        Err(refusal) => write_refusal(refusal.number(), out),
     }
 }
 
@@ -39,9 +31,8 @@ fn answer_line(line: Line, out: &mut [u8]) -> usize
 pub fn answer(input: &[u8], out: &mut [u8]) -> usize
     ensures { Written listing_most (printed input.now) out.old out.new result }
 {
-    let read = read_line(input);
-    match read {
-        Read::Line(line) => answer_line(line, out),
-        Read::Unreadable => write_refusal(12, out),
+    match read_line(input) {
+        Ok(line) => answer_line(line, out),
+        Err(unreadable) => write_refusal(unreadable.number(), out),
     }
 }

@@ -1,47 +1,27 @@
 // Standard input, output and error, as the programs use them. No contract can say which bytes are read or written.
 #![tactic(auto)]
 
-ghost use Rattle.std.specs.Prelude.{◌≤◌, length};
-ghost use Rattle.streams.specs.Input.{bytes_of};
+ghost use Rattle.std.specs.Prelude.{◌≤◌, IfOk, IfSome, length};
 
+use std::io;
 use std::io::{Print, Read};
 
-// What was read: so many bytes, or that a read failed.
-#[derive(Clone, Copy)]
-pub enum Input {
-    Bytes(usize),
-    Failed,
-}
-
-// Whether a byte is a newline.
-fn has_newline(s: &[u8]) -> bool {
-    for i in 0..s.len() {
-        if s[i] == b'\n' {
-            return true;
-        }
-    }
-    false
-}
-
 // Reads until the input has ended, the buffer is full or a read fails; if one line is wanted, also until a newline has come.
-pub fn read_input<R: Read>(from: &mut R, buf: &mut [u8], one_line: bool) -> Input
-    ensures { bytes_of result ≤ length buf.new }
+// Says how many bytes then stand at the buffer's start.
+pub fn read_input<R: Read>(from: &mut R, buf: &mut [u8], one_line: bool) -> io::Result<usize>
+    ensures { IfOk result (λ n. n ≤ length buf.new) }
 {
     let mut done = 0;
+    // A read says how far it came, so no step is known before.
     while done < buf.len() {
-        let Ok(got) = from.read(&mut buf[done..]) else {
-            return Input::Failed;
-        };
+        let got = from.read(&mut buf[done..])?;
         let end = done + got;
-        if end == done {
-            return Input::Bytes(done);
-        }
-        if one_line & has_newline(&buf[done..end]) {
-            return Input::Bytes(end);
+        if got == 0 || one_line && buf[done..end].contains(&b'\n') {
+            return Ok(end);
         }
         done = end;
     }
-    Input::Bytes(done)
+    Ok(done)
 }
 
 // Reads until the buffer is full, the input has ended or a read fails, and says how many bytes then stand at its start.
@@ -49,30 +29,33 @@ pub fn read_full<R: Read>(from: &mut R, buf: &mut [u8]) -> usize
     ensures { result ≤ length buf.new }
 {
     let mut done = 0;
+    // A read says how far it came, so no step is known before.
     while done < buf.len() {
-        let Ok(got) = from.read(&mut buf[done..]) else {
-            return done;
-        };
-        if got == 0 {
-            return done;
+        match from.read(&mut buf[done..]) {
+            Ok(0) | Err(_) => break,
+            Ok(got) => done += got,
         }
-        done += got;
     }
     done
 }
 
-// Writes bytes. A write that fails leaves the rest of them out, and nobody is told: the programs that are compared by what
-// they write use it.
-pub fn put(to: &impl Print, bytes: &[u8]) {
-    let _ = to.write_all(bytes);
+// Reads what a program is given, and says how many bytes then stand at the buffer's start. Where a read fails, that is said
+// on standard error.
+pub fn take_input(rt: &HostRuntime, program: &str, buf: &mut [u8], one_line: bool) -> Option<usize>
+    ensures { IfSome result (λ n. n ≤ length buf.new) }
+{
+    match read_input(&mut rt.stdin(), buf, one_line) {
+        Ok(n) => Some(n),
+        Err(_) => {
+            let _ = eprintln!(rt; "{program}: standard input could not be read");
+            None
+        }
+    }
 }
 
-// Writes a number's decimal digits, as `put` writes bytes.
-pub fn put_decimal(to: &impl Print, n: u64) {
-    let _ = to.print(n);
-}
-
-// Says on standard error what failed.
-pub fn complain(to: &impl Print, what: &[u8]) {
-    put(to, what);
+// Writes what a program answers. Where standard output does not take every byte, that is said on standard error.
+pub fn give_answer(rt: &HostRuntime, program: &str, answer: &[u8]) {
+    if rt.write_all(answer).is_err() {
+        let _ = eprintln!(rt; "{program}: standard output did not take every byte");
+    }
 }

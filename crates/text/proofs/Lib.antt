@@ -1,4 +1,5 @@
 -- Lemmas that several proofs of the crate use.
+pub mod Digits
 pub mod Front
 pub mod Numerals
 pub mod Overlays

@@ -2,7 +2,7 @@
 use Prim.Native.Nat.{ℕ, ◌+◌, ◌-◌, ◌*◌, ◌^◌, ◌≤◌, ◌<◌}
 use mathlib.Core.Path.{◌≡◌, refl}
 use mathlib.Core.Bool.{cond, ◌&&◌, and-false}
-use mathlib.Core.Option.{Option, none, some}
+use Rattle.std.specs.Prelude.{Option, Some, None}
 use mathlib.Core.List.{List, [], ◌∷◌}
 use native.Mathlib.Nat.{le_refl, le-mul_of_pos_right}
 use native.Mathlib.Omega.{arith}
@@ -35,7 +35,7 @@ module _ {b : ℕ} where
 
 -- the numeral whose first digits gave n and whose other digits are a text
 unfoldable pub numeral_from : ℕ → ℕ → List ℕ → Option ℕ
-numeral_from base n t = cond (all_digits base t && ltb (append base n t) (2 ^ 64)) (some (append base n t)) none
+numeral_from base n t = cond (all_digits base t && ltb (append base n t) (2 ^ 64)) (Some (append base n t)) None
 
 pub from_start : (base : ℕ) (t : List ℕ) → numeral base t ≡ numeral_from base 0 t
 unfolding numeral numeral_from
@@ -46,17 +46,17 @@ unfolding append
 append_grows base n [] h = le_refl n
 append_grows base n (b ∷ t) h = omega (arith, append_grows base (n * base + digit b) t h, le-mul_of_pos_right n h)
 
-pub from_end : (base n : ℕ) (t : List ℕ) (i : ℕ) → length t ≤ i → n < 2 ^ 64 → numeral_from base n (drop i t) ≡ some n
+pub from_end : (base n : ℕ) (t : List ℕ) (i : ℕ) → length t ≤ i → n < 2 ^ 64 → numeral_from base n (drop i t) ≡ Some n
 unfolding numeral_from all_digits append
 from_end base n t i e h = rw (drop_of_length-le t e) (simp (lt-ltb n (2 ^ 64) h))
 
 -- the next digit, at place i of a text
 module _ (base n : ℕ) (t : List ℕ) (i : ℕ) (in-text : i < length t) where
-  pub from_other : base ≤ digit (get_or t i 0) → numeral_from base n (drop i t) ≡ none
+  pub from_other : base ≤ digit (get_or t i 0) → numeral_from base n (drop i t) ≡ None
   unfolding numeral_from all_digits
   from_other h = rw (front t i in-text) (simp (le-ltb (digit (get_or t i 0)) base h))
 
-  pub from_large : 1 ≤ base → 2 ^ 64 ≤ n * base + digit (get_or t i 0) → numeral_from base n (drop i t) ≡ none
+  pub from_large : 1 ≤ base → 2 ^ 64 ≤ n * base + digit (get_or t i 0) → numeral_from base n (drop i t) ≡ None
   unfolding numeral_from append
   from_large one h =
       let m = n * base + digit (get_or t i 0) in

@@ -1,8 +1,5 @@
 -- Numbers as text (rules 10.3 and 10.4).
-use Rattle.std.specs.Prelude.{ℕ, ◌+◌, ◌-◌, ◌*◌, ◌^◌, Bool, true, cond, ◌&&◌, List, [], ◌∷◌, leb, ltb, eqb, length}
-use Rattle.std.proofs.Math.Option.{Option, none, some}
-use Rattle.text.specs.declared.numeral.Number.{Number}
-use Rattle.text.specs.declared.numeral.Number.TheVariants.{Of, Unreadable}
+use Rattle.std.specs.Prelude.{ℕ, ◌+◌, ◌-◌, ◌*◌, ◌^◌, Bool, true, cond, ◌&&◌, List, [], ◌∷◌, leb, ltb, eqb, length, Option, Some, None}
 
 -- the digit that a byte stands for: `0` (48) to `9`, then `a` (97) to `f`; of any other byte 16, which no base here has
 unfoldable pub digit : ℕ → ℕ
@@ -20,7 +17,7 @@ append base n (b ∷ bs) = append base (n * base + digit b) bs
 
 -- the number that a text of digits stands for, if it is below 2^64
 unfoldable pub numeral : ℕ → List ℕ → Option ℕ
-numeral base t = cond (all_digits base t && ltb (append base 0 t) (2 ^ 64)) (some (append base 0 t)) none
+numeral base t = cond (all_digits base t && ltb (append base 0 t) (2 ^ 64)) (Some (append base 0 t)) None
 
 -- the most digits of a decimal, and the digits of a loss rate's bits
 abbrev pub max_digits : ℕ
@@ -31,13 +28,8 @@ rate_digits = 16
 
 -- a decimal: 1 to 20 digits, below 2^64
 unfoldable pub decimal : List ℕ → Option ℕ
-decimal t = cond (leb 1 (length t) && leb (length t) max_digits) (numeral 10 t) none
+decimal t = cond (leb 1 (length t) && leb (length t) max_digits) (numeral 10 t) None
 
 -- 16 lowercase hexadecimal digits
 unfoldable pub hexadecimal : List ℕ → Option ℕ
-hexadecimal t = cond (eqb (length t) rate_digits) (numeral 16 t) none
-
--- what the reader of a number answers
-abbrev pub number_of : Number → Option ℕ
-number_of (Of n) = some n
-number_of Unreadable = none
+hexadecimal t = cond (eqb (length t) rate_digits) (numeral 16 t) None

@@ -1,51 +1,85 @@
-// Text laid over a lent buffer: bytes, words and numbers behind each other. What lies past the
-// buffer's end is dropped, and the place goes on.
-ghost use Rattle.std.specs.Prelude.{◌≡◌, [], ◌∷◌, ◌≤◌, length};
+// Text laid over a lent buffer: bytes, words and numbers behind each other.
+ghost use Rattle.std.specs.Prelude.{◌≡◌, [], ◌∷◌, ◌≤◌, length, slice_set};
 ghost use Rattle.std.proofs.lemmas.List.Edits.{sets};
-ghost use Rattle.text.specs.Overlay.{Laid, Room};
+ghost use Rattle.text.specs.Overlay.{Lays, Room, Written};
 ghost use Rattle.text.specs.Text.{number_most, spelled};
 
-// One byte.
-pub fn put(byte: u8, out: &mut [u8], at: usize) -> usize
-    requires { Room at 1 }
-    ensures { Laid 1 out.old at (byte ∷ []) out.new result }
+use crate::numeral::MAX_DIGITS;
+
+// Text that is laid over a lent buffer. What lies past its end is dropped, and the place goes on.
+#[derive(Drop)]
+pub struct Overlay<'a> {
+    pub out: &'a mut [u8],
+    pub at: usize,
+}
+
+// A byte at a place of a buffer, if the buffer reaches so far.
+fn store(out: &mut [u8], at: usize, byte: u8)
+    ensures { out.new ≡ slice_set out.old at byte }
 {
     if at < out.len() {
         out[at] = byte;
     }
-    at + 1
 }
 
-// A word.
-pub fn put_word(word: &[u8], out: &mut [u8], at: usize) -> usize
-    requires { Room at (length word.now) }
-    ensures { Laid (length word.now) out.old at word.now out.new result }
-{
-    let mut next = at;
-    for i in 0..word.len() {
-        next = put(word[i], out, next);
+impl Overlay<'_> {
+    // One byte.
+    pub fn put(&mut self, byte: u8)
+        requires { Room self.old.at 1 }
+        ensures { Lays 1 (byte ∷ []) self.old self.new }
+    {
+        store(self.out, self.at, byte);
+        self.at += 1;
     }
-    next
+
+    // A word.
+    pub fn put_word(&mut self, word: &[u8])
+        requires { Room self.old.at (length word.now) }
+        ensures { Lays (length word.now) word.now self.old self.new }
+    {
+        // A place of its own: with the struct's place each byte would wait for the one before.
+        let mut at = self.at;
+        for &byte in word {
+            store(self.out, at, byte);
+            at += 1;
+        }
+        self.at = at;
+    }
+
+    // A number in decimal.
+    pub fn put_number(&mut self, n: u64)
+        requires { Room self.old.at number_most }
+        ensures { Lays number_most (spelled n) self.old self.new }
+    {
+        // From the last digit on, as how many there are is not known before. A call for each digit takes longer.
+        let mut digits = [0u8; MAX_DIGITS];
+        let mut first = MAX_DIGITS - 1;
+        let mut rest = n;
+        while 10 <= rest {
+            digits[first] = 48 + (rest % 10) as u8;
+            first -= 1;
+            rest /= 10;
+        }
+        digits[first] = 48 + rest as u8;
+        self.put_word(&digits[first..]);
+    }
+}
+
+// A word over the start of a buffer, and how many bytes it has.
+#[tactic(auto, using(crate::proofs::Overlays::whole))]
+pub fn write_word(word: &[u8], out: &mut [u8]) -> usize
+    ensures { Written (length word.now) word.now out.old out.new result }
+{
+    let mut over = Overlay { out, at: 0 };
+    over.put_word(word);
+    over.at
 }
 
 // A text to the start of a buffer that it fits in.
+#[tactic(auto, using(crate::proofs::Overlays::front_sets))]
 pub fn copy(text: &[u8], out: &mut [u8])
     requires { length text.now ≤ length out.old }
     ensures { out.new ≡ sets out.old 0 text.now }
 {
-    for i in 0..text.len() {
-        out[i] = text[i];
-    }
-}
-
-// A number in decimal.
-pub fn put_number(n: u64, out: &mut [u8], at: usize) -> usize
-    requires { Room at number_most }
-    ensures { Laid number_most out.old at (spelled n) out.new result }
-{
-    if n < 10 {
-        return put(48 + n as u8, out, at);
-    }
-    let next = put_number(n / 10, out, at);
-    put(48 + (n % 10) as u8, out, next)
+    out[..text.len()].copy_from_slice(text);
 }

@@ -1,16 +1,12 @@
-use Rattle.std.proofs.Common.{arith}
-use Rattle.line.proofs.Fields.{count_end, count_space, count_other}
+use Rattle.std.proofs.Common.{rules, tests, ◌∙◌, ap, eqb, length}
+use Rattle.std.proofs.lemmas.Iterator.Consumers.{count_from_yields_List}
+use Rattle.std.proofs.lemmas.Iterator.Splits.{YieldsList-from_slice_split}
+use Rattle.line.proofs.Fields.{fields_split}
 use Rattle.line.proofs.read.field_count.Goals as goal
-use Rattle.line.proofs.read.field_count.Goals.{then-line-i-eq32, else-line-i-eq32}
-
-pub loop-i-preserved : goal.loop-i-preserved
-loop-i-preserved c =
-    let i = c.loop-i.i in
-    let line = c.args.line.now in
-    elim c.if-line-i-eq32.branch [
-      | then-line-i-eq32 w ↦ omega (arith, count_space line i (omega arith) w.if-line-i-eq32.true)
-      | else-line-i-eq32 w ↦ omega (arith, count_other line i (omega arith) w.if-line-i-eq32.false)
-    ]
 
 pub returns : goal.returns
-returns c = omega (arith, count_end c.args.line.now c.loop-i.i (omega arith))
+returns c =
+    let line = c.args.line.now in
+    count_from_yields_List c.split.result _ c.count.ensures.ran
+    (YieldsList-from_slice_split _ (λ b. eqb b 32) line c.split.ensures.rest c.split.ensures.done c.split.ensures.closure (λ x b q k. search (rules, tests)))
+    ∙ ap length (fields_split line)

@@ -5,4 +5,4 @@ use Rattle.listing.proofs.write.put_radio_line.Goals as goal
 
 pub returns : goal.returns
 unfolding radio_line line_with labelled ascii
-returns c = c.put_labelled-a.ensures then (c.put_labelled-b.ensures then (c.put_labelled-c.ensures then c.put.ensures))
+returns c = c.put_labelled.ensures then (c.put_labelled-2.ensures then (c.put_labelled-3.ensures then c.put.ensures))

@@ -6,5 +6,5 @@ use Rattle.listing.proofs.write.put_run_line.Goals as goal
 pub returns : goal.returns
 unfolding run_line line_with labelled ascii
 returns c =
-    c.put_labelled-a.ensures then (c.put_labelled-b.ensures then (c.put_labelled-c.ensures
-    then (c.put_labelled-d.ensures then c.put.ensures)))
+    c.put_labelled.ensures then (c.put_labelled-2.ensures then (c.put_labelled-3.ensures
+    then (c.put_labelled-4.ensures then c.put.ensures)))

@@ -6,8 +6,8 @@ use Rattle.listing.proofs.write.put_snapshot_line.Goals as goal
 pub returns : goal.returns
 unfolding snapshot_line line_with labelled ascii
 returns c =
-    let all = c.put_labelled-a.ensures then (c.put_spaced-b.ensures then (c.put_spaced-c.ensures
-    then (c.put_spaced-d.ensures then (c.put_spaced-e.ensures then c.put.ensures)))) in
+    let all = c.put_labelled.ensures then (c.put_spaced.ensures then (c.put_spaced-2.ensures
+    then (c.put_spaced-3.ensures then (c.put_spaced-4.ensures then c.put.ensures)))) in
     rw (
       c.number_at-slot.ensures,
       c.number_at-progress.ensures,

@@ -1,2 +1,0 @@
--- What is right for the crate `streams`.
-pub mod Input
