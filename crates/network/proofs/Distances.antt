@@ -5,9 +5,8 @@ use mathlib.Core.Bool.{true}
 use mathlib.Core.Logic.{◌⊎◌, inl, inr, ⊎_elim}
 use mathlib.Core.List.{List}
 use mathlib.Core.Option.{Option, none, some, none-ne-some, some-injective}
-use Prim.Native.Nat.{ℕ, zero, suc, ◌+◌, ◌-◌, ◌^◌, ◌≤◌, ◌<◌, zero-le, suc-le-suc, max}
+use Prim.Native.Nat.{ℕ, zero, suc, ◌-◌, ◌^◌, ◌≤◌, ◌<◌, zero-le, suc-le-suc, max}
 use native.Mathlib.Nat.{not-suc-le-zero, le_of_suc-le-suc, le_refl, le_step, le_trans, le_antisymm, eq-or-lt_of_le, le-max_left, le-max_right, max-eq_left, max-eq_right, le_of_lt}
-use native.Mathlib.Numerals.{add-one}
 use lib.Dec.{leb}
 use borrow.Author.Tests.{leb-true, leb-false}
 use Rattle.network.specs.Graph.{has, linked, Checked, Path, here, on}
@@ -34,15 +33,6 @@ greatest_at (suc n) f =
     let q = max-eq_left (le_of_lt (leb-false (greatest n f) (f n) e)) in
     ⊎_elim (λ r. inl (r.0, le_step r.1, r.2 ∙ sym q)) (λ z. inr (q ∙ z)) (greatest_at n f))
     (two (leb (greatest n f) (f n)))
-
--- a loop that keeps the greatest so far
-pub greatest_raised : (i : ℕ) (f : ℕ → ℕ) {g : ℕ} → g ≡ greatest i f → g < f i → f i ≡ greatest (i + 1) f
-unfolding greatest
-greatest_raised i f e l = sym (ap (λ (k : ℕ). greatest k f) (add-one i) ∙ max-eq_right (le_of_lt (subst (λ (x : ℕ). x < f i) e l)))
-
-pub greatest_kept : (i : ℕ) (f : ℕ → ℕ) {g : ℕ} → g ≡ greatest i f → f i ≤ g → g ≡ greatest (i + 1) f
-unfolding greatest
-greatest_kept i f e l = e ∙ sym (ap (λ (k : ℕ). greatest k f) (add-one i) ∙ max-eq_left (subst (λ (x : ℕ). f i ≤ x) e l))
 
 -- ---- paths
 cons : {rows : List ℕ} {x y z k : ℕ} → linked rows x y ≡ true → Path rows y k z → Path rows x (suc k) z

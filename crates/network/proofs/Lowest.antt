@@ -1,6 +1,6 @@
 -- The lowest and the highest node of a set, a set without some of its nodes, and a set taken apart from its lowest node on, as a loop by
 -- `trailing_zeros` does. Assumes nothing.
-use mathlib.Core.Path.{◌≡◌, refl, sym, ap, ◌∙◌, subst, subst⁻¹}
+use mathlib.Core.Path.{◌≡◌, refl, sym, ap, ◌∙◌, subst}
 use mathlib.Core.Bool.{Bool, true, false, cond, not, ◌&&◌}
 use mathlib.Core.Logic.{◌⊎◌, inl, inr, ⊎_elim}
 use Prim.Native.Nat.{ℕ, zero, suc, ◌+◌, ◌-◌, ◌*◌, ◌/◌, ◌%◌, ◌^◌, ◌≤◌, ◌<◌, min}
@@ -12,8 +12,9 @@ use borrow.Author.Tests.{eqb-true, eqb-false, leb-true, leb-false, ltb-true, ltb
 use lib.Bits.{bit_and, and_step, and_le_l, and_self}
 use lib.Count.{under, count_trailing_zeros, count_leading_zeros, leading_top}
 use lib.Dec.{eqb, leb, ltb, eqb-zero-suc, eqb-suc-zero, eqb-suc-suc}
-use lib.Pow.{pow_pos, shr-shr, high}
+use lib.Pow.{shr-shr, high}
 use Rattle.network.specs.Graph.{has}
+use Rattle.network.specs.Members.{TakesLowest}
 use Rattle.network.proofs.Sets.{two, never, has_out}
 
 -- ---- one binary digit
@@ -184,7 +185,7 @@ drop_of w s t p f (suc zero) l e =
     and_step s (s - 1) ∙ rw (h, g, and_self (s / 2)) (omega (arith, e))
 drop_of w s t p f (suc (suc d)) l e = absurd (omega (arith, l))
 
-drop_lowest : (w s : ℕ) → s < 2 ^ w → (s ≡ 0 → ⊥) → bit_and s (s - 1) ≡ s - 2 ^ count_trailing_zeros w s
+pub drop_lowest : (w s : ℕ) → s < 2 ^ w → (s ≡ 0 → ⊥) → bit_and s (s - 1) ≡ s - 2 ^ count_trailing_zeros w s
 unfolding count_trailing_zeros
 drop_lowest zero s h p = absurd (p (omega (arith, h)))
 drop_lowest (suc w) s h p =
@@ -192,45 +193,38 @@ drop_lowest (suc w) s h p =
     (λ e. drop_lowest w (s / 2) (omega (arith, h, pow-suc 2 w)) (λ q. p (omega (arith, q, e))))
     (s % 2) (mod-lt s (omega arith)) refl
 
--- t is the next node of s from m on; the code drops it by `rest & (rest - 1)`
-pub record Next (w s rest m t : ℕ) : Type 0 where
-  pub within : t < w
+-- t is the next member of s from m on, and `left` has those behind it
+pub record Taken (s m t left : ℕ) : Type 0 where
+  pub within : t < 64
   pub from : m ≤ t
   pub is : has s t ≡ true
   pub none : (j : ℕ) → m ≤ j → j < t → has s j ≡ false
-  pub fewer : bit_and rest (rest - 1) < rest
-  pub onward : Walked s (bit_and rest (rest - 1)) (t + 1)
+  pub onward : Walked s left (t + 1)
 
-pub walked_next : (w : ℕ) {s rest m : ℕ} → rest < 2 ^ w → (rest ≡ 0 → ⊥) → Walked s rest m → Next w s rest m (count_trailing_zeros w rest)
-walked_next w {s} {rest} {m} h p x =
-    let t = count_trailing_zeros w rest in
-    let l = lowest w rest h p in
+pub walked_take : {s rest m t left : ℕ} → Walked s rest m → TakesLowest rest t left → Taken s m t left
+walked_take {s} {rest} {m} {t} {left} x l =
     let from : m ≤ t = ⊎_elim (λ u. leb-true m t u) (λ u. never l.is (x.after t (leb-false m t u))) (two (leb m t)) in
-    let fits = has_le t rest l.is in
-    let drop = drop_lowest w rest h p in
+    let without : (j : ℕ) → has left j ≡ cond (eqb j t) false (has rest j) = λ j.
+    ap (λ (y : ℕ). has y j) (omega (arith, l.left)) ∙ has_less rest t j l.is in
     record {
       within = l.within;
       from = from;
       is = x.inside t from ∙ l.is;
       none = λ j a b. x.inside j a ∙ l.below j b;
-      fewer = omega (arith, drop, fits, pow_pos t);
-      onward = subst⁻¹ (λ (y : ℕ). Walked s y (t + 1)) drop
-          (record {
-            part = omega (arith, x.part);
-            inside = λ j a. x.inside j (omega (arith, from, a)) ∙ sym (has_less rest t j l.is ∙ ap (λ (b : Bool). cond b false (has rest j)) (ne_eqb j t (λ e. absurd (omega (arith, e, a)))));
-            after = λ j b. has_less rest t j l.is ∙ gone j b (two (eqb j t));
-          });
+      onward = record {
+        part = omega (arith, x.part, l.left);
+        inside = λ j a. x.inside j (omega (arith, from, a)) ∙ sym (without j ∙ ap (λ (b : Bool). cond b false (has rest j)) (ne_eqb j t (λ e. absurd (omega (arith, e, a)))));
+        after = λ j b. without j ∙ gone j b (two (eqb j t));
+      };
     }
   where
-    gone : (j : ℕ) → j < count_trailing_zeros w rest + 1 → (eqb j (count_trailing_zeros w rest) ≡ true) ⊎ (eqb j (count_trailing_zeros w rest) ≡ false) → cond (eqb j (count_trailing_zeros w rest)) false (has rest j) ≡ false
+    gone : (j : ℕ) → j < t + 1 → (eqb j t ≡ true) ⊎ (eqb j t ≡ false) → cond (eqb j t) false (has rest j) ≡ false
     gone j b (inl e) = ap (λ (y : Bool). cond y false (has rest j)) e
-    gone j b (inr e) =
-        ap (λ (y : Bool). cond y false (has rest j)) e
-        ∙ (lowest w rest h p).below j (omega (arith, b, eqb-false j (count_trailing_zeros w rest) e))
+    gone j b (inr e) = ap (λ (y : Bool). cond y false (has rest j)) e ∙ l.below j (omega (arith, b, eqb-false j t e))
 
--- what holds of the nodes below m, of those that s does not have, and of t, holds of those below t + 1
-pub next_passed : {w s rest m t : ℕ} (P : ℕ → Type 0) → Next w s rest m t → ((j : ℕ) → j < m → P j) → ((j : ℕ) → has s j ≡ false → P j) → P t → (j : ℕ) → j < t + 1 → P j
-next_passed {m = m} {t = t} P x f g p =
+-- what holds of the members below m, of those that s does not have, and of t, holds of those below t + 1
+pub taken_passed : {s m t left : ℕ} (P : ℕ → Type 0) → Taken s m t left → ((j : ℕ) → j < m → P j) → ((j : ℕ) → has s j ≡ false → P j) → P t → (j : ℕ) → j < t + 1 → P j
+taken_passed {m = m} {t = t} P x f g p =
     below_more P t (λ j l. ⊎_elim (λ e. f j (ltb-true j m e)) (λ e. g j (x.none j (ltb-false j m e) l)) (two (ltb j m))) p
 
 -- and where none is left, of every node

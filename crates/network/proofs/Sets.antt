@@ -7,7 +7,7 @@ use Prim.Native.Nat.{ℕ, zero, suc, ◌+◌, ◌-◌, ◌*◌, ◌/◌, ◌%◌
 use native.Mathlib.Nat.{not-suc-le-zero, le_of_suc-le-suc, eq-or-lt_of_le, le_refl, le_of_eq, le_step, le_of_lt, lt_irrefl, lt_of_lt_of_le, div-eq_of_lt, mod-lt, pow-suc, add-zero, zero-add, add_comm, zero-mul, one-mul, mod-eq_of_lt, div-lt_iff_lt-mul, mul_comm}
 use native.Mathlib.Numerals.{add-one}
 use native.Mathlib.Omega.{arith}
-use lib.Bits.{bit_or, or_shr, or_mod, or_shifted_r}
+use lib.Bits.{bit_or, or_shr, or_mod}
 use lib.Pow.{pow_pos, pow_mono, pow-lt, split, high, low}
 use lib.Dec.{eqb}
 use borrow.Author.Tests.{eq-eqb, ne_eqb}
@@ -265,24 +265,6 @@ count_lt (suc n) f g h j l p q =
     (λ m. omega (arith, count_lt n f g (λ i l. h i (le_step l)) j m p q, bits_le (f n) (g n) (h n (le_refl (suc n)))))
     (last_or_below l)
 
--- ---- a set that a loop builds, one node a turn, in a word of w bits
+-- ---- the set of node j alone, as a word of w bits has it
 pub one_shl : (w j : ℕ) → j < w → 1 * 2 ^ j % 2 ^ w ≡ 2 ^ j
 one_shl w j h = ap (λ (x : ℕ). x % 2 ^ w) (one-mul (2 ^ j)) ∙ mod-eq_of_lt (pow-lt h)
-
-pub set_of_with : (w j : ℕ) {s : ℕ} (f : ℕ → Bool) → j < w → s ≡ set_of j f → f j ≡ true → bit_or s (1 * 2 ^ j % 2 ^ w) ≡ set_of (j + 1) f
-unfolding set_of
-set_of_with w j f h e t =
-    ap₂ bit_or e (one_shl w j h ∙ sym (one-mul (2 ^ j)))
-    ∙ or_shifted_r 1 j (set_of j f) (set_of_lt j f)
-    ∙ ap (λ (x : ℕ). x + set_of j f) (one-mul (2 ^ j))
-    ∙ add_comm (2 ^ j) (set_of j f)
-    ∙ ap (λ (b : Bool). set_of j f + cond b (2 ^ j) 0) (sym t)
-    ∙ ap (λ (k : ℕ). set_of k f) (sym (add-one j))
-
-pub set_of_without : (j : ℕ) {s : ℕ} (f : ℕ → Bool) → s ≡ set_of j f → f j ≡ false → s ≡ set_of (j + 1) f
-unfolding set_of
-set_of_without j f e t =
-    e
-    ∙ sym (add-zero (set_of j f))
-    ∙ ap (λ (b : Bool). set_of j f + cond b (2 ^ j) 0) (sym t)
-    ∙ ap (λ (k : ℕ). set_of k f) (sym (add-one j))

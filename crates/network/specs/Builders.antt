@@ -1,15 +1,18 @@
 -- What the inner functions of the builders promise and need, beside the rules themselves (3.2, 9.2).
-use Rattle.std.specs.Prelude.{Bool, ◌&&◌, ◌||◌, [], ◌∷◌, ℕ, ◌+◌, ◌%◌, ◌≤◌, ◌<◌, eqb, leb, ltb}
+use Rattle.std.specs.Prelude.{Bool, ◌&&◌, ◌||◌, [], ◌∷◌, ℕ, ◌+◌, ◌%◌, ◌≤◌, ◌<◌, Result, eqb, leb, ltb}
 use Rattle.config.specs.Limits.{min_nodes, max_nodes, max_branching}
+use Rattle.config.specs.Refusals.{unless}
+use Rattle.config.specs.declared.refusal.Refusal.{Refusal}
 use Rattle.network.specs.Questions.{within, first_no}
 use Rattle.network.specs.Topology.{graph_as}
 use Rattle.network.specs.declared.topology.Topology.{Topology}
 use Rattle.network.specs.declared.topology.Topology.TheVariants.{FullMesh, Line, Star, Grid, Ring, Tree}
-use Rattle.network.specs.declared.topology.BuiltGraph.{BuiltGraph}
+use Rattle.network.specs.declared.graph.Graph.{Graph}
 
 -- What a builder gives after question 1, where the second number may be at most `most`.
-abbrev pub asked_graph : Topology → ℕ → ℕ → ℕ → BuiltGraph
-asked_graph t n second most = graph_as t n (first_no ((within min_nodes max_nodes n, 2) ∷ (leb second most, 3) ∷ []))
+abbrev pub asked_graph : Topology → ℕ → ℕ → ℕ → Result Graph Refusal
+asked_graph t n second most =
+    unless (first_no ((within min_nodes max_nodes n, Refusal.NodeCount) ∷ (leb second most, Refusal.SecondNumber) ∷ [])) (graph_as t n)
 
 -- In rows of c, j is the node to the right of i or the one below it: a grid is built from these links, each in both directions.
 abbrev pub right_or_below : ℕ → ℕ → ℕ → Bool

@@ -1,11 +1,11 @@
 -- Distance, eccentricity and diameter (rules 3.4, 3.5 and 9.3) of the graph whose n nodes have the given rows. A distance is a number of
 -- links, or none where no path joins the two nodes.
-use Rattle.std.specs.Prelude.{◌≡◌, cond, ◌&&◌, ◌||◌, List, [], ◌∷◌, ℕ, zero, suc, ◌^◌, ◌<◌, max}
+use Rattle.std.specs.Prelude.{◌≡◌, cond, ◌&&◌, ◌||◌, List, [], ◌∷◌, ℕ, zero, suc, ◌^◌, ◌<◌, max, Result}
 use Rattle.std.proofs.Math.Option.{Option, none, some, map}
 use Rattle.network.specs.Graph.{has, set_of, any, linked, Path}
 use Rattle.network.specs.Questions.{first_no, question4, rows_questions}
-use Rattle.network.specs.declared.distance.Measured.{Measured}
-use Rattle.network.specs.declared.distance.Measured.TheVariants.{Links, Refused}
+use Rattle.config.specs.Refusals.{unless}
+use Rattle.config.specs.declared.refusal.Refusal.{Refusal}
 
 -- The set s with every node that a link joins to a node of s.
 unfoldable pub spread : List ℕ → ℕ → ℕ → ℕ
@@ -64,12 +64,7 @@ diameter rows n = greatest n (eccentricity rows n)
 unfoldable pub Joined : List ℕ → ℕ → Type 0
 Joined rows n = (a b : ℕ) → a < n → b < n → (k : ℕ) × (distance rows n a b ≡ some k)
 
--- From the refusal's number or none.
-abbrev pub measured_as : ℕ → Option ℕ → Measured
-measured_as d none = Links d
-measured_as d (some k) = Refused k
-
 -- Questions 2 and 4, then the diameter.
-unfoldable pub measured : List ℕ → ℕ → Measured
+unfoldable pub measured : List ℕ → ℕ → Result ℕ Refusal
 unfolding question4 diameter
-measured rows n = measured_as (diameter rows n) (first_no (rows_questions rows n))
+measured rows n = unless (first_no (rows_questions rows n)) (diameter rows n)

@@ -4,3 +4,4 @@ pub mod Questions
 pub mod Topology
 pub mod Builders
 pub mod Distance
+pub mod Members

@@ -1,17 +1,17 @@
 -- The questions that are put to a topology and to rows (rules 9.1 to 9.3).
-use Rattle.std.specs.Prelude.{Bool, not, cond, ◌&&◌, ◌||◌, List, [], ◌∷◌, ℕ, ◌*◌, eqb, leb, length}
-use Rattle.std.proofs.Math.Option.{Option, none, some}
+use Rattle.std.specs.Prelude.{Bool, not, cond, ◌&&◌, ◌||◌, List, [], ◌∷◌, ℕ, ◌*◌, Option, Some, None, eqb, leb, length}
 use Rattle.network.specs.Graph.{rows_right}
 use Rattle.config.specs.Limits.{min_nodes, max_nodes, max_branching}
+use Rattle.config.specs.declared.refusal.Refusal.{Refusal}
 
 -- lo ≤ x ≤ hi
 abbrev pub within : ℕ → ℕ → ℕ → Bool
 within lo hi x = leb lo x && leb x hi
 
--- The number of the first question that is answered "no", of questions put in order, each with its number.
-abbrev pub first_no : List (Bool × ℕ) → Option ℕ
-first_no [] = none
-first_no (q ∷ rest) = cond q.0 (first_no rest) (some q.1)
+-- The refusal by the first question that is answered "no", of questions put in order, each with its refusal.
+abbrev pub first_no : List (Bool × Refusal) → Option Refusal
+first_no [] = None
+first_no (q ∷ rest) = cond q.0 (first_no rest) (Some q.1)
 
 -- The number of nodes: for a grid rows times columns.
 abbrev pub nodes_of : ℕ → ℕ → ℕ → ℕ
@@ -36,10 +36,13 @@ unfoldable pub question4 : List ℕ → ℕ → Bool
 unfolding rows_right
 question4 rows n = leb n (length rows) && rows_right rows n
 
--- The questions put to a topology by its number, and to rows.
-abbrev pub topology_questions : ℕ → ℕ → ℕ → List (Bool × ℕ)
+-- The questions put to a topology by its number, 1 to 3, and to rows, 2 and 4.
+abbrev pub topology_questions : ℕ → ℕ → ℕ → List (Bool × Refusal)
 topology_questions topology first second =
-    (question1 topology, 1) ∷ (question2 topology first second, 2) ∷ (question3 topology second, 3) ∷ []
+    (question1 topology, Refusal.UnknownTopology)
+    ∷ (question2 topology first second, Refusal.NodeCount)
+    ∷ (question3 topology second, Refusal.SecondNumber)
+    ∷ []
 
-abbrev pub rows_questions : List ℕ → ℕ → List (Bool × ℕ)
-rows_questions rows n = (within min_nodes max_nodes n, 2) ∷ (question4 rows n, 4) ∷ []
+abbrev pub rows_questions : List ℕ → ℕ → List (Bool × Refusal)
+rows_questions rows n = (within min_nodes max_nodes n, Refusal.NodeCount) ∷ (question4 rows n, Refusal.WrongRows) ∷ []

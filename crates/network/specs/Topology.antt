@@ -1,15 +1,13 @@
 -- The rows of each topology (rule 3.2), and what the builders answer (rules 7.6, 9.2 and 9.3).
-use Rattle.std.specs.Prelude.{Bool, not, cond, ◌&&◌, ◌||◌, List, [], ◌∷◌, ◌++◌, ℕ, ◌+◌, ◌*◌, ◌/◌, ◌%◌, eqb, leb, ltb, length, drop, replicate}
-use Rattle.std.proofs.Math.Option.{Option, none, some}
-use Rattle.config.specs.Limits.{max_nodes}
+use Rattle.std.specs.Prelude.{Bool, not, cond, ◌&&◌, ◌||◌, List, [], ◌∷◌, ◌++◌, ℕ, ◌+◌, ◌*◌, ◌/◌, ◌%◌, Option, Some, None, Result, Ok, Err, eqb, leb, ltb, length, drop}
+use Rattle.config.specs.Refusals.{unless}
+use Rattle.config.specs.declared.refusal.Refusal.{Refusal}
 use Rattle.random.specs.Table.{tabulate}
 use Rattle.network.specs.Graph.{set_of, widened}
 use Rattle.network.specs.Questions.{within, first_no, nodes_of, rows_questions, topology_questions}
 use Rattle.network.specs.declared.topology.Topology.{Topology}
 use Rattle.network.specs.declared.topology.Topology.TheVariants.{FullMesh, Line, Star, Grid, Ring, Tree}
-use Rattle.network.specs.declared.topology.Built.{Built}
-use Rattle.network.specs.declared.topology.Built.TheVariants.{Nodes, Refused}
-use Rattle.network.specs.declared.topology.BuiltGraph.{BuiltGraph}
+use Rattle.network.specs.declared.graph.Graph.{Graph}
 
 -- Two numbers that differ by 1.
 abbrev pub beside : ℕ → ℕ → Bool
@@ -52,44 +50,39 @@ topology_of topology second =
     (cond (eqb topology 4) (Grid second) (cond (eqb topology 5) Ring (Tree second)))))
 
 -- Questions 1, 2, 3 and 10, for a slice of the given length.
-abbrev pub builder_refusal : ℕ → ℕ → ℕ → ℕ → Option ℕ
+abbrev pub builder_refusal : ℕ → ℕ → ℕ → ℕ → Option Refusal
 builder_refusal topology first second len =
-    first_no (topology_questions topology first second ++ ((leb (nodes_of topology first second) len, 10) ∷ []))
+    first_no (topology_questions topology first second ++ ((leb (nodes_of topology first second) len, Refusal.ShortBuffers) ∷ []))
 
 -- A slice whose first n places hold the topology's rows.
 unfoldable pub with_rows : Topology → ℕ → List ℕ → List ℕ
 unfolding topology_rows
 with_rows t n out = topology_rows t n ++ drop n out
 
--- The answer and the slice's final contents, from the refusal's number or none.
-abbrev pub answered : Topology → ℕ → List ℕ → Option ℕ → Built × List ℕ
-answered t n out none = (Nodes n, with_rows t n out)
-answered t n out (some k) = (Refused k, out)
+-- The answer and the slice's final contents, from the refusal or none.
+abbrev pub answered : Topology → ℕ → List ℕ → Option Refusal → Result ℕ Refusal × List ℕ
+answered t n out None = (Ok n, with_rows t n out)
+answered t n out (Some r) = (Err r, out)
 
 -- What `rows` gives back and leaves in the slice.
-abbrev pub built_rows : ℕ → ℕ → ℕ → List ℕ → Built × List ℕ
+abbrev pub built_rows : ℕ → ℕ → ℕ → List ℕ → Result ℕ Refusal × List ℕ
 built_rows topology first second out =
     answered (topology_of topology second) (nodes_of topology first second) out
     (builder_refusal topology first second (length out))
 
--- A refusal, with no link at all.
-abbrev pub refused_graph : ℕ → BuiltGraph
-refused_graph k = record { answer = Refused k; rows = replicate max_nodes 0 }
+-- The graph of n nodes with these rows, as a run takes them.
+abbrev pub graph_of : List ℕ → ℕ → Graph
+graph_of rows n = record { nodes = n; rows = widened rows n }
 
--- The number of nodes and their rows as a run takes them, or the refusal, from its number or none.
-abbrev pub graph_of : List ℕ → ℕ → Option ℕ → BuiltGraph
-graph_of rows n none = record { answer = Nodes n; rows = widened rows n }
-graph_of rows n (some k) = refused_graph k
-
--- the same of a topology
-abbrev pub graph_as : Topology → ℕ → Option ℕ → BuiltGraph
-graph_as t n o = graph_of (topology_rows t n) n o
+-- that of a topology
+abbrev pub graph_as : Topology → ℕ → Graph
+graph_as t n = graph_of (topology_rows t n) n
 
 -- What `build_graph` gives back.
-abbrev pub built_graph : ℕ → ℕ → ℕ → BuiltGraph
+abbrev pub built_graph : ℕ → ℕ → ℕ → Result Graph Refusal
 built_graph topology first second =
-    graph_as (topology_of topology second) (nodes_of topology first second) (first_no (topology_questions topology first second))
+    unless (first_no (topology_questions topology first second)) (graph_as (topology_of topology second) (nodes_of topology first second))
 
 -- What `checked_graph` gives back: questions 2 and 4, then the first n rows.
-abbrev pub checked_graph : List ℕ → ℕ → BuiltGraph
-checked_graph rows n = graph_of rows n (first_no (rows_questions rows n))
+abbrev pub checked_graph : List ℕ → ℕ → Result Graph Refusal
+checked_graph rows n = unless (first_no (rows_questions rows n)) (graph_of rows n)

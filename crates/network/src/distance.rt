@@ -4,85 +4,69 @@ ghost use Rattle.network.specs.Graph.{has, set_of, any, linked, Checked};
 ghost use Rattle.config.specs.Limits.{max_nodes};
 ghost use Rattle.network.specs.Distance.{eccentricity, diameter, measured};
 
-use crate::graph;
-use crate::topology::{Built, checked_graph};
+use crate::graph::{Graph, full_set};
+use crate::members::members_of;
+use crate::topology::checked_graph;
 use crate::units::NodeId;
-use config::limits::MAX_NODES;
+use config::refusal::Refusal;
 
-// What asking for a diameter answers: the number of links, or the number of the question that was answered "no".
-#[derive(Clone, Copy)]
-pub enum Measured {
-    Links(usize),
-    Refused(u64),
-}
-
-// The nodes that a link joins to one of `edge`: the union of the rows of its nodes.
-fn linked_to(rows: &[u64; MAX_NODES], n: usize, edge: u64) -> u64
-    requires { (n ≤ max_nodes) × (Checked rows.now n × (edge < 2 ^ n)) }
-    ensures { result ≡ set_of n (λ j. any n (λ i. has edge i && linked rows.now i j)) }
-{
-    let mut found = 0;
-    let mut rest = edge;
-    while rest != 0 {
-        let t = u64::trailing_zeros(rest) as usize;
-        found |= rows[t];
-        rest = rest & (rest - 1);
-    }
-    found
-}
-
-// The greatest finite distance from a: the number of steps in which the set of nodes reached still grows. A step looks
-// only at the nodes reached last: the rows of the others are in the set already.
-pub fn eccentricity(rows: &[u64; MAX_NODES], n: usize, a: NodeId) -> usize
-    requires { (n ≤ max_nodes) × (Checked rows.now n × (a.0 < n)) }
-    ensures { result ≡ eccentricity rows.now n a.0 }
-{
-    let start = a.0;
-    let mut reached: u64 = 1 << start;
-    let mut edge = reached;
-    let mut k = 0;
-    let all = graph::full_set(n);
-    while reached != all {
-        let next = reached | linked_to(rows, n, edge);
-        if next == reached {
-            return k;
+impl Graph {
+    // The nodes that a link joins to one of `edge`: the union of the rows of its nodes.
+    fn linked_to(&self, edge: u64) -> u64
+        requires { (self.now.nodes ≤ max_nodes) × (Checked self.now.rows self.now.nodes × (edge < 2 ^ self.now.nodes)) }
+        ensures { result ≡ set_of self.now.nodes (λ j. any self.now.nodes (λ i. has edge i && linked self.now.rows i j)) }
+    {
+        let mut found = 0;
+        for t in members_of(edge) {
+            found |= self.rows[t];
         }
-        edge = next - reached;
-        reached = next;
-        k += 1;
+        found
     }
-    k
+
+    // The greatest finite distance from a: the number of steps in which the set of nodes reached still grows. A step looks
+    // only at the nodes reached last: the rows of the others are in the set already.
+    pub fn eccentricity(&self, a: NodeId) -> usize
+        requires { (self.now.nodes ≤ max_nodes) × (Checked self.now.rows self.now.nodes × (a.0 < self.now.nodes)) }
+        ensures { result ≡ eccentricity self.now.rows self.now.nodes a.0 }
+    {
+        let mut reached: u64 = 1 << a.0;
+        let mut edge = reached;
+        let mut k = 0;
+        let all = full_set(self.nodes);
+        // No index is counted: k is the answer, and how many steps there are is not known before.
+        while reached != all {
+            let next = reached | self.linked_to(edge);
+            if next == reached {
+                return k;
+            }
+            edge = next - reached;
+            reached = next;
+            k += 1;
+        }
+        k
+    }
+
+    // The greatest finite distance. No distance reaches the number of nodes, so none is greater than one less.
+    pub fn diameter(&self) -> usize
+        requires { (self.now.nodes ≤ max_nodes) × Checked self.now.rows self.now.nodes }
+        ensures { result ≡ diameter self.now.rows self.now.nodes }
+    {
+        let mut greatest = 0usize;
+        // By the node's number, which the distances start from.
+        for a in 0..self.nodes {
+            let far = self.eccentricity(NodeId(a));
+            if far + 1 == self.nodes {
+                return far;
+            }
+            greatest = greatest.max(far);
+        }
+        greatest
+    }
 }
 
-// The greatest finite distance. No distance reaches n, so none is greater than n - 1.
-pub fn diameter_of(rows: &[u64; MAX_NODES], n: usize) -> usize
-    requires { (n ≤ max_nodes) × Checked rows.now n }
-    ensures { result ≡ diameter rows.now n }
-{
-    let mut greatest = 0;
-    for a in 0..n {
-        let far = eccentricity(rows, n, NodeId(a));
-        if far + 1 == n {
-            return far;
-        }
-        if greatest < far {
-            greatest = far;
-        }
-    }
-    greatest
-}
-
-// The diameter of n nodes with the given rows, after questions 2 and 4.
-pub fn measure(rows: &[u32], n: u64) -> Measured
+// The diameter of n nodes with the given rows, as `checked_graph` is given them, after questions 2 and 4.
+pub fn measure(rows: &[u32], n: u64) -> Result<usize, Refusal>
     ensures { result ≡ measured rows.now n }
 {
-    let checked = checked_graph(rows, n);
-    let answer = checked.answer;
-    match answer {
-        Built::Refused(k) => Measured::Refused(k),
-        Built::Nodes(nodes) => {
-            let wide = checked.rows;
-            Measured::Links(diameter_of(&wide, nodes))
-        }
-    }
+    Ok(checked_graph(rows, n)?.diameter())
 }

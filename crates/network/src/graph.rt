@@ -3,10 +3,12 @@ ghost use Rattle.std.specs.Prelude.{◌≡◌, ◌-◌, ◌^◌, ◌≤◌, ◌<
 ghost use Rattle.network.specs.Graph.{has, backed, row_backed, rows_right, widened};
 ghost use Rattle.config.specs.Limits.{set_bits, max_nodes};
 
+use crate::members::members_of;
 use crate::units::NodeId;
 use config::limits::{MAX_NODES, SET_BITS};
 
 // Whether node j is in the set.
+#[tactic(auto, unfolding(crate::specs::Graph::has))]
 pub fn has(set: u64, j: NodeId) -> bool
     requires { j.0 < set_bits }
     ensures { result ≡ has set j.0 }
@@ -23,58 +25,62 @@ pub fn full_set(n: usize) -> u64
     if n < SET_BITS { (1 << n) - 1 } else { u64::MAX }
 }
 
-// The first n rows as 64-bit sets; the other places are empty.
+// A graph as a run takes it: the rows as sets of 64 bits, and empty ones from the number of nodes on.
+#[derive(Clone, Copy)]
+pub struct Graph {
+    pub nodes: usize,
+    pub rows: [u64; MAX_NODES],
+}
+
+// The first n rows, as `checked_graph` is given them, as 64-bit sets; the other places are empty.
 pub fn widen(rows: &[u32], n: usize) -> [u64; MAX_NODES]
     requires { (n ≤ max_nodes) × (n ≤ length rows.now) }
     ensures { result ≡ widened rows.now n }
 {
     let mut wide = [0u64; MAX_NODES];
-    for i in 0..n {
-        wide[i] = rows[i] as u64;
+    for (i, &row) in rows[..n].iter().enumerate() {
+        wide[i] = row as u64;
     }
     wide
 }
 
-// Whether node i is in the row of each node of its own row.
-fn backed(rows: &[u64; MAX_NODES], n: usize, i: NodeId) -> bool
-    requires { (n ≤ max_nodes) × ((i.0 < n) × (get_or rows.now i.0 0 < 2 ^ n)) }
-    ensures { result ≡ backed rows.now n i.0 }
-{
-    let at = i.0;
-    let mut rest = rows[at];
-    while rest != 0 {
-        let j = u64::trailing_zeros(rest) as usize;
-        let other = rows[j];
-        if !has(other, i) {
+impl Graph {
+    // Whether node i is in the row of each node of its own row.
+    fn backed(&self, i: NodeId) -> bool
+        requires { (self.now.nodes ≤ max_nodes) × ((i.0 < self.now.nodes) × (get_or self.now.rows i.0 0 < 2 ^ self.now.nodes)) }
+        ensures { result ≡ backed self.now.rows self.now.nodes i.0 }
+    {
+        for j in members_of(self.rows[i.0]) {
+            if !has(self.rows[j], i) {
+                return false;
+            }
+        }
+        true
+    }
+
+    // Question 4 of one row, where each link is looked for at its other end.
+    fn row_backed(&self, i: NodeId) -> bool
+        requires { (self.now.nodes ≤ max_nodes) × (i.0 < self.now.nodes) }
+        ensures { result ≡ row_backed self.now.rows self.now.nodes i.0 }
+    {
+        let set = self.rows[i.0];
+        if full_set(self.nodes) < set {
             return false;
         }
-        rest = rest & (rest - 1);
+        !has(set, i) & self.backed(i)
     }
-    true
-}
 
-// Question 4 of one row, where each link is looked for at its other end.
-fn row_backed(rows: &[u64; MAX_NODES], n: usize, i: NodeId) -> bool
-    requires { (n ≤ max_nodes) × (i.0 < n) }
-    ensures { result ≡ row_backed rows.now n i.0 }
-{
-    let at = i.0;
-    let set = rows[at];
-    if full_set(n) < set {
-        return false;
-    }
-    !has(set, i) & backed(rows, n, i)
-}
-
-// Whether the first n rows have no bit at or above n, no own bit, and j in i exactly when i in j.
-pub fn rows_right(rows: &[u64; MAX_NODES], n: usize) -> bool
-    requires { n ≤ max_nodes }
-    ensures { result ≡ rows_right rows.now n }
-{
-    for i in 0..n {
-        if !row_backed(rows, n, NodeId(i)) {
-            return false;
+    // Whether the rows have no bit at or above the number of nodes, no own bit, and j in i exactly when i in j.
+    pub fn rows_right(&self) -> bool
+        requires { self.now.nodes ≤ max_nodes }
+        ensures { result ≡ rows_right self.now.rows self.now.nodes }
+    {
+        // By the node's number, which the other nodes' rows are asked for.
+        for i in 0..self.nodes {
+            if !self.row_backed(NodeId(i)) {
+                return false;
+            }
         }
+        true
     }
-    true
 }

@@ -3,6 +3,7 @@
 
 pub mod distance;
 pub mod graph;
+pub mod members;
 mod neighbours;
 pub mod questions;
 pub mod topology;

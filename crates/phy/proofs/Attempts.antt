@@ -13,6 +13,7 @@ use lib.Bits.{bit_and}
 use Rattle.network.specs.Graph.{has, linked}
 use Rattle.network.proofs.Sets.{has_out}
 use Rattle.phy.proofs.Masks.{has_and}
+use Rattle.random.specs.declared.draws.Stream.{Stream}
 use Rattle.phy.specs.declared.slot.Tried.{Tried}
 use Rattle.phy.specs.Slot.{Tries, attempt, attempt_all, among, receivers}
 use Rattle.phy.specs.View.{tries_of, TriedOn}
@@ -22,12 +23,12 @@ unfolding attempt_all
 attempt_all_append h t [] ys = refl
 attempt_all_append h t (x ∷ xs) ys = attempt_all_append h (attempt h t x) xs ys
 
-pub tried_none : (rate : Float) (t : Tried) (w : List ℕ) → TriedOn rate 0 [] t w t w
+pub tried_none : (rate : Float) (t : Tried) (w : Stream) → TriedOn rate 0 [] t w t w
 unfolding attempt_all
 tried_none rate t w = record { attempts = omega arith; successes = omega arith; tried = λ heard r. refl; source = λ heard r. r }
 
 -- first the receivers js, then ks
-pub tried_then : {rate : Float} {i k : ℕ} {js ks : List ℕ} {t u v : Tried} {w x y : List ℕ} → TriedOn rate i js t w u x → TriedOn rate k ks u x v y → TriedOn rate (i + k) (js ++ ks) t w v y
+pub tried_then : {rate : Float} {i k : ℕ} {js ks : List ℕ} {t u v : Tried} {w x y : Stream} → TriedOn rate i js t w u x → TriedOn rate k ks u x v y → TriedOn rate (i + k) (js ++ ks) t w v y
 tried_then {rate} {js = js} {ks = ks} {t = t} a b =
     record {
       attempts = omega (arith, a.attempts, b.attempts);
@@ -38,7 +39,7 @@ tried_then {rate} {js = js} {ks = ks} {t = t} a b =
     }
 
 -- the same attempts under another name, or a looser bound
-pub tried_as : {rate : Float} {i k : ℕ} {js ks : List ℕ} {t u : Tried} {w x : List ℕ} → i ≤ k → js ≡ ks → TriedOn rate i js t w u x → TriedOn rate k ks t w u x
+pub tried_as : {rate : Float} {i k : ℕ} {js ks : List ℕ} {t u : Tried} {w x : Stream} → i ≤ k → js ≡ ks → TriedOn rate i js t w u x → TriedOn rate k ks t w u x
 tried_as {rate} {i} {k} {js} {ks} {t} {u} h e a =
     record {
       attempts = omega (arith, a.attempts);

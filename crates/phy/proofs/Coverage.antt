@@ -1,11 +1,11 @@
 -- The two counts of a round beside each other: who took part is covered, and where they are equal and where not. Assumes nothing.
+use Rattle.std.specs.Prelude.{Option, Some}
 use Prim.Native.Nat.{ℕ, ◌<◌}
 use mathlib.Core.Path.{◌≡◌, refl, ap, ◌∙◌}
 use mathlib.Core.Bool.{Bool, true, false, cond}
 use Rattle.network.specs.Graph.{has, set_of, any, count, linked}
 use Rattle.network.proofs.Sets.{count_mono}
 use Rattle.random.specs.Table.{tabulate}
-use Rattle.phy.specs.declared.node.Payload.{Payload}
 use Rattle.phy.specs.declared.packet.Packet.{Packet}
 use Rattle.phy.specs.Packets.{payload_is}
 use Rattle.phy.specs.Node.{tick, transition}
@@ -30,7 +30,7 @@ module _ (g : Setup) (longest initiator : ℕ) (packet : Packet) (s : Standing) 
   -- who took part is covered
   part_covered : (j : ℕ) → j < g.nodes → has played.part j ≡ true → payload_is packet (at played.after.nodes j).payload ≡ true
   part_covered j h took =
-      ap (payload_is packet) (payload_round g longest initiator packet s j h ∙ ap (λ (b : Bool). cond b (Payload.Of packet) (at s.nodes j).payload) took)
+      ap (payload_is packet) (payload_round g longest initiator packet s j h ∙ ap (λ (b : Bool). cond b (Some packet) (at s.nodes j).payload) took)
       ∙ same_packet_itself packet
 
   -- where no other node than the initiator held the round's packet before it
@@ -41,7 +41,7 @@ module _ (g : Setup) (longest initiator : ℕ) (packet : Packet) (s : Standing) 
         ap (payload_is packet) (payload_round g longest initiator packet s j h)
         ∙ go (has played.part j) (at s.nodes j).payload (λ out. others j h (part_others g longest initiator packet s j h out))
       where
-        go : (b : Bool) (old : Payload) → (b ≡ false → payload_is packet old ≡ false) → payload_is packet (cond b (Payload.Of packet) old) ≡ b
+        go : (b : Bool) (old : Option Packet) → (b ≡ false → payload_is packet old ≡ false) → payload_is packet (cond b (Some packet) old) ≡ b
         go true old e = same_packet_itself packet
         go false old e = e refl
 

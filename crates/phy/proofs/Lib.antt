@@ -21,3 +21,4 @@ pub mod Wave
 pub mod Lossless
 pub mod Due
 pub mod Fives
+pub mod Onward

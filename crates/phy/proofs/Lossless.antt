@@ -16,9 +16,8 @@ use Rattle.random.proofs.Tables.{get_d_tabulate}
 use Rattle.network.proofs.Distances.{distance_self, distance_zero, distance_link, distance_before, joined_distance, eccentricity_bound, eccentricity_each}
 use Rattle.phy.specs.declared.node.Node.{Node}
 use Rattle.phy.specs.declared.node.NodeState.{NodeState}
-use Rattle.phy.specs.declared.node.Payload.{Payload}
 use Rattle.phy.specs.declared.packet.Packet.{Packet}
-use Rattle.config.specs.declared.RoundSlots.{RoundSlots}
+use Rattle.std.specs.Prelude.{Some, None}
 use Rattle.phy.specs.Packets.{payload_is}
 use Rattle.phy.specs.Node.{new, transition, holding, begun_by, delivered_to, listens, floods, sleeps, is_flooding, is_sleeping}
 use Rattle.phy.specs.Slot.{Setup, Standing, at, how_many, ticked, tries_in, slot_step}
@@ -190,7 +189,7 @@ pub record Lossless (g : Setup) (a : ℕ) (packet : Packet) (s : Standing) (r : 
   pub slept : (j : ℕ) → j < g.nodes → (at r.after.nodes j).slots_sleep ≡ (at s.nodes j).slots_sleep + (eccentricity g.rows g.nodes a - away g.rows g.nodes a j)
   -- each node ends asleep and holds the packet
   pub asleep : (j : ℕ) → j < g.nodes → is_sleeping (at r.after.nodes j) ≡ true
-  pub held : (j : ℕ) → j < g.nodes → (at r.after.nodes j).payload ≡ Payload.Of packet
+  pub held : (j : ℕ) → j < g.nodes → (at r.after.nodes j).payload ≡ Some packet
   -- all took part and are covered
   pub part : r.part ≡ set_of g.nodes (λ (j : ℕ). true)
   pub covered : r.covered ≡ g.nodes
@@ -257,5 +256,5 @@ lossless_tries g longest a packet s ck joined ha pos enough e =
     lossless_round g longest a packet s ck joined ha pos enough (all_heard (tallied_round g longest a packet s) e)
 
 -- a length that is not configured leaves room for such a round
-pub limit_enough : (diameter repeats : ℕ) → 1 ≤ repeats → diameter + repeats ≤ length_limit RoundSlots.Absent diameter repeats
+pub limit_enough : (diameter repeats : ℕ) → 1 ≤ repeats → diameter + repeats ≤ length_limit None diameter repeats
 limit_enough diameter repeats pos = omega (arith, le-mul_of_pos_right diameter pos)

@@ -9,7 +9,7 @@ use lib.Count.{ones, ones_cat}
 use lib.Dec.{eqb}
 use lib.ListN.{length, length-set}
 use lib.Seq.{get_or-set_same, get_or-set_other}
-use Rattle.network.specs.Graph.{has, set_of, count, all}
+use Rattle.network.specs.Graph.{has, set_of, count}
 use Rattle.network.proofs.Sets.{set_of_lt}
 use Rattle.random.proofs.Tables.{get_d_tabulate}
 use Rattle.phy.specs.declared.node.Node.{Node}
@@ -117,10 +117,6 @@ pub count_cong : (n : ℕ) (f g : ℕ → Bool) → ((j : ℕ) → j < n → f j
 unfolding count
 count_cong zero f g h = refl
 count_cong (suc n) f g h = ap₂ (λ (k : ℕ) (b : Bool). k + cond b 1 0) (count_cong n f g (λ j b. h j (omega arith))) (h n (omega arith))
-
--- tests that passed up to n
-pub all_at : (f : ℕ → Bool) {i n : ℕ} → i ≡ n → all i f ≡ true → all n f ≡ true
-all_at f e p = ap (λ (m : ℕ). all m f) (sym e) ∙ p
 
 -- the bits of a set are its nodes
 pub ones_set_of : (n : ℕ) (f : ℕ → Bool) → ones (set_of n f) ≡ count n f

@@ -1,4 +1,5 @@
 -- What the nodes hold after a round: those that took part this round's packet, every other node what it held before. Assumes nothing.
+use Rattle.std.specs.Prelude.{Some}
 use Prim.Native.Nat.{ℕ, ◌<◌}
 use mathlib.Core.Path.{◌≡◌, refl, sym, ap, ◌∙◌}
 use mathlib.Core.Bool.{Bool, true, false, cond, ◌||◌}
@@ -10,7 +11,6 @@ use Rattle.random.proofs.Tables.{get_d_tabulate}
 use Rattle.phy.specs.declared.node.Node.{Node}
 use Rattle.phy.specs.declared.node.NodeState.{NodeState}
 use Rattle.phy.specs.declared.node.NodeState.TheVariants.{Listen, Flood, Sleep}
-use Rattle.phy.specs.declared.node.Payload.{Payload}
 use Rattle.phy.specs.declared.packet.Packet.{Packet}
 use Rattle.phy.specs.Node.{new, tick, tick_in, transition, transition_in, holding, begun_by, delivered_to, sleeps, is_sleeping}
 use Rattle.phy.specs.Slot.{Setup, Standing, at, ticked, tries_in, slot_step}
@@ -64,12 +64,12 @@ module _ (g : Setup) (longest initiator : ℕ) (packet : Packet) (s : Standing) 
   -- who took part holds the packet, every other node what it held
   pub payload_round : (j : ℕ) → j < g.nodes
       → (at (round g longest initiator packet s).after.nodes j).payload
-      ≡ cond (has (round g longest initiator packet s).part j) (Payload.Of packet) (at s.nodes j).payload
+      ≡ cond (has (round g longest initiator packet s).part j) (Some packet) (at s.nodes j).payload
   unfolding round participants delivered begun
   payload_round j h =
       ap (λ (x : Node). x.payload) got
       ∙ go (eqb j initiator) (is_sleeping v) (payload_slots g longest first j h ∙ ap (λ (x : Node). x.payload) (get_d_tabulate g.nodes _ j new h))
-      ∙ ap (λ (b : Bool). cond b (Payload.Of packet) (at s.nodes j).payload)
+      ∙ ap (λ (b : Bool). cond b (Some packet) (at s.nodes j).payload)
       (sym (has_set_of g.nodes _ j h ∙ ap (λ (x : NodeState). eqb j initiator || sleeps x) (ap (λ (x : Node). x.state) got ∙ delivered_state packet v)))
     where
       first : Standing
@@ -82,7 +82,7 @@ module _ (g : Setup) (longest initiator : ℕ) (packet : Packet) (s : Standing) 
       got = get_d_tabulate g.nodes (λ (i : ℕ). delivered_to packet (at (slots g longest first).nodes i)) j new h
 
       go : (a b : Bool) → v.payload ≡ (begun_by a packet g.repeats (at s.nodes j)).payload
-          → (cond b (holding packet v) v).payload ≡ cond (a || b) (Payload.Of packet) (at s.nodes j).payload
+          → (cond b (holding packet v) v).payload ≡ cond (a || b) (Some packet) (at s.nodes j).payload
       go true true e = refl
       go true false e = e
       go false true e = refl

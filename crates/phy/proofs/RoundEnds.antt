@@ -16,6 +16,7 @@ use Rattle.network.specs.Graph.{has, set_of}
 use Rattle.network.proofs.Lowest.{has_minus, has_zero}
 use Rattle.network.proofs.Sets.{two, has_or, has_one, has_full, has_set_of, set_of_cong, set_of_one}
 use Rattle.random.proofs.Tables.{get_d_tabulate}
+use Rattle.random.specs.declared.draws.Stream.{Stream}
 use Rattle.phy.specs.declared.node.Node.{Node}
 use Rattle.phy.specs.declared.node.NodeState.{NodeState}
 use Rattle.phy.specs.declared.node.NodeState.TheVariants.{Listen, Flood, Sleep}
@@ -134,7 +135,7 @@ module _ (n repeats first : ℕ) (packet : Packet) (x : Radios) (b₀ b : List �
       }
 
 -- the same of what the code's begin gave
-pub opens : (g : Settings) (first : ℕ) (packet : Packet) {x y : Radios} {e₀ e e' w b₀ b : List ℕ} {s : Standing} → CanBegin g first → g.repeats ≤ length e₀
+pub opens : (g : Settings) (first : ℕ) (packet : Packet) {x y : Radios} {e₀ e e' : List ℕ} {w : Stream} {b₀ b : List ℕ} {s : Standing} → CanBegin g first → g.repeats ≤ length e₀
     → Emptied g.repeats e₀ e → Begins g first x e y e' → Stands g.nodes x b₀ b s
     → InSlot g 0 y (tables e' w b) b₀ (with_nodes (begun g.nodes g.repeats first packet s.nodes) s)
 opens g first packet {x} {y} {e₀} {e} {e'} {w} {b₀} {b} {s} can room emptied begins st =

@@ -5,11 +5,12 @@ use mathlib.Core.Bool.{true, false}
 use mathlib.Core.List.{List, [], ◌∷◌, ◌++◌, flatten, append_assoc, append-nil}
 use mathlib.Core.Logic.{⊎_elim}
 use native.Mathlib.Nat.{add-zero, suc-mul, zero-mul, le-mul_of_pos_right}
-use native.Mathlib.Numerals.{add-one, add-two, add-three, add-four}
+use native.Mathlib.Numerals.{add-one}
 use native.Mathlib.Omega.{arith}
 use lib.Dec.{leb}
 use lib.ListN.{length, set, take, drop, length-append, length-drop}
-use lib.Seq.{sets, length-sets, take_all, take-nil, take-append-le, drop-append-le, drop-length}
+use lib.Seq.{sets, sets-eq, length-sets, take_all, take-nil, take-append-le, drop-append-le, drop-length}
+use borrow.Rule.Slice.PartMut.{put_mid, Post-is}
 use borrow.Author.Tests.{le-leb, lt-leb, leb-true, leb-false}
 use Rattle.config.specs.Limits.{snapshot_size}
 use Rattle.network.proofs.Sets.{two}
@@ -18,9 +19,12 @@ use Rattle.phy.specs.Snapshots.{snapshot_room, snapshots_with}
 use Rattle.phy.specs.View.{Stores, Scheduled}
 
 -- ---- where they are stored
-pub five_sets : (b : List ℕ) (i v w x y z : ℕ)
-    → set (set (set (set (set b i v) (i + 1) w) (i + 2) x) (i + 3) y) (i + 4) z ≡ sets b i (v ∷ w ∷ x ∷ y ∷ z ∷ [])
-five_sets b i v w x y z = rw (add-one, add-two, add-three, add-four)
+-- what is copied to a part of a list is written there one element after the other
+pub copied : (l ys : List ℕ) (at e : ℕ) → e ≡ at + length ys → e ≤ length l → put_mid at (e - at) l ys ≡ sets l at ys
+copied l ys at e is fits =
+    ap (λ (rest : List ℕ). take at l ++ (ys ++ rest)) (Post-is at e l (omega (arith, is)) ∙ ap (λ (k : ℕ). drop k l) is)
+    ∙ sym (append_assoc (take at l) ys (drop (at + length ys) l))
+    ∙ sym (sets-eq ys l at (omega (arith, is, fits)))
 
 pub sets_append : (l : List ℕ) (i : ℕ) (xs ys : List ℕ) → sets l i (xs ++ ys) ≡ sets (sets l i xs) (i + length xs) ys
 sets_append l i [] ys = ap (λ (k : ℕ). sets l k ys) (sym (add-zero i))

@@ -16,6 +16,7 @@ use Rattle.config.specs.Limits.{max_nodes, count_bound}
 use Rattle.network.specs.Graph.{has, set_of, count}
 use Rattle.network.proofs.Lowest.{has_minus}
 use Rattle.network.proofs.Sets.{two, never, same, has_or, has_set_of, set_of_lt}
+use Rattle.random.specs.declared.draws.Stream.{Stream}
 use Rattle.phy.specs.declared.node.Node.{Node}
 use Rattle.phy.specs.declared.node.NodeState.{NodeState}
 use Rattle.phy.specs.declared.node.NodeState.TheVariants.{Listen, Flood, Sleep}
@@ -342,7 +343,7 @@ module _ (g : Settings) (rows : List ℕ) (heard : ℕ → Bool) (p : ℕ) (x : 
         shots = takes.scheduled b₀ s.shots st.shots;
       }
 
-  pub slot_stands : (w : List ℕ) → InSlot g (place_after g.repeats p 1) after (tables e' w b') b₀ (slot_step setup s)
+  pub slot_stands : (w : Stream) → InSlot g (place_after g.repeats p 1) after (tables e' w b') b₀ (slot_step setup s)
   slot_stands w =
       subst (InSlot g (place_after g.repeats p 1) after (tables e' w b') b₀) arrives
       (record {

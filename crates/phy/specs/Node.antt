@@ -1,14 +1,13 @@
 -- One node's record in a round (rules 4.1, 4.3, 4.5, 4.8 and 4.10).
-use Rattle.std.specs.Prelude.{ℕ, ◌+◌, ◌-◌, Bool, true, false, cond, eqb}
+use Rattle.std.specs.Prelude.{ℕ, ◌+◌, ◌-◌, Bool, true, false, cond, eqb, Some, None}
 use Rattle.phy.specs.declared.node.NodeState.{NodeState}
 use Rattle.phy.specs.declared.node.NodeState.TheVariants.{Listen, Flood, Sleep}
-use Rattle.phy.specs.declared.node.Payload.{Payload}
 use Rattle.phy.specs.declared.node.Node.{Node}
 use Rattle.phy.specs.declared.packet.Packet.{Packet}
 
 -- a node before its first round
 abbrev pub new : Node
-new = record { state = Listen; flood_remaining = 0; payload = Payload.None; slots_listen = 0; slots_flood = 0; slots_sleep = 0 }
+new = record { state = Listen; flood_remaining = 0; payload = None; slots_listen = 0; slots_flood = 0; slots_sleep = 0 }
 
 -- the node with another state and other repeats left
 abbrev pub in_state : NodeState → ℕ → Node → Node
@@ -50,7 +49,7 @@ holding p v =
     record {
       state = v.state;
       flood_remaining = v.flood_remaining;
-      payload = Payload.Of p;
+      payload = Some p;
       slots_listen = v.slots_listen;
       slots_flood = v.slots_flood;
       slots_sleep = v.slots_sleep;

@@ -4,16 +4,16 @@ use Rattle.random.specs.Table.{tabulate}
 use Rattle.network.specs.Graph.{has, set_of, count}
 use Rattle.phy.specs.declared.node.Node.{Node}
 use Rattle.phy.specs.declared.packet.Packet.{Packet}
-use Rattle.config.specs.declared.RoundSlots.{RoundSlots}
+use Rattle.std.specs.Prelude.{Option, Some, None}
 use Rattle.config.specs.Limits.{least_length}
 use Rattle.phy.specs.Packets.{payload_is}
 use Rattle.phy.specs.Node.{begun_by, delivered_to, is_flooding, is_sleeping}
 use Rattle.phy.specs.Slot.{Setup, Standing, at, how_many, slot_step}
 
 -- the length limit: `round_slots`, else max(3, (d + 2) times repeats)
-abbrev pub length_limit : RoundSlots → ℕ → ℕ → ℕ
-length_limit (RoundSlots.Of slots) d repeats = slots
-length_limit RoundSlots.Absent d repeats = max least_length ((d + 2) * repeats)
+abbrev pub length_limit : Option ℕ → ℕ → ℕ → ℕ
+length_limit (Some slots) d repeats = slots
+length_limit None d repeats = max least_length ((d + 2) * repeats)
 
 -- All nodes listen, the initiator floods with its repeats and holds the packet.
 unfoldable pub begun : ℕ → ℕ → ℕ → Packet → List Node → List Node

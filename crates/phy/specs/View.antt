@@ -6,6 +6,7 @@ use Rattle.std.proofs.lemmas.List.Edits.{sets}
 use Rattle.config.specs.Limits.{max_nodes, max_repeats, snapshot_size, count_bound}
 use Rattle.network.specs.Graph.{has, set_of, all}
 use Rattle.random.specs.Reception.{Source}
+use Rattle.random.specs.declared.draws.Stream.{Stream}
 use Rattle.phy.specs.declared.slot.Settings.{Settings}
 use Rattle.phy.specs.declared.slot.Tried.{Tried}
 use Rattle.phy.specs.declared.slot.Awake.{Awake}
@@ -25,10 +26,10 @@ use Rattle.phy.specs.Round.{slots as slotsOfRound, round}
 -- what a round is lent: the queue of the flooding nodes, the stream of the draws, and the buffer of the snapshots
 pub record Tables : Type 0 where
   pub queue : List ℕ
-  pub stream : List ℕ
+  pub stream : Stream
   pub snapshots : List ℕ
 
-abbrev pub tables : List ℕ → List ℕ → List ℕ → Tables
+abbrev pub tables : List ℕ → Stream → List ℕ → Tables
 tables queue stream snapshots = record { queue = queue; stream = stream; snapshots = snapshots }
 
 -- ---- attempts
@@ -41,7 +42,7 @@ abbrev pub tries_of : Tried → Tries
 tries_of t = record { attempts = t.attempts; successes = t.successes; reached = t.reached }
 
 -- r is t after attempts at the receivers js, of which there are at most k; the stream of the draws was w, and is w'
-pub record TriedOn (rate : Float) (k : ℕ) (js : List ℕ) (t : Tried) (w : List ℕ) (r : Tried) (w' : List ℕ) : Type 0 where
+pub record TriedOn (rate : Float) (k : ℕ) (js : List ℕ) (t : Tried) (w : Stream) (r : Tried) (w' : Stream) : Type 0 where
   pub attempts : r.attempts ≤ t.attempts + k
   pub successes : r.successes ≤ t.successes + k
   pub tried : (heard : ℕ → Bool) → Source rate heard t.attempts w → tries_of r ≡ attempt_all heard (tries_of t) js

@@ -10,28 +10,17 @@ ghost use Rattle.phy.specs.View.{tables, Sound, Meets, Slotted, place_after};
 ghost use Rattle.phy.specs.View.{CanBegin, Begins, Emptied, CanFlood, Rounded};
 
 use super::slot::{QUEUE_SIZE, Radios, Settings, slot};
-use config::RoundSlots;
 use config::limits::{LEAST_LENGTH, MAX_NODES};
 use network::graph::full_set;
 use network::units::NodeId;
-use random::draws::STREAM_SIZE;
+use random::draws::Stream;
 
 // How many slots a round has at most.
-pub fn length_limit(round_slots: RoundSlots, diameter: u64, repeats: u64) -> u64
+pub fn length_limit(round_slots: Option<u64>, diameter: u64, repeats: u64) -> u64
     requires { (diameter ≤ set_bits) × (repeats ≤ max_repeats) }
     ensures { result ≡ length_limit round_slots diameter repeats }
 {
-    match round_slots {
-        RoundSlots::Of(slots) => slots,
-        RoundSlots::Absent => {
-            let floods = (diameter + 2) * repeats;
-            if floods < LEAST_LENGTH {
-                LEAST_LENGTH
-            } else {
-                floods
-            }
-        }
-    }
+    round_slots.unwrap_or(LEAST_LENGTH.max((diameter + 2) * repeats))
 }
 
 // Where a run stands after a round, and the set of the nodes that took part.
@@ -56,10 +45,11 @@ fn begin_round(
     let own = 1u64 << first;
     let last = settings.repeats as usize - 1;
     queue[last] = own;
-    let mut y = x;
-    y.listening = full_set(settings.nodes) - own;
-    y.flooding = own;
-    y
+    Radios {
+        listening: full_set(settings.nodes) - own,
+        flooding: own,
+        ..x
+    }
 }
 
 // The place after this one in a queue of so many.
@@ -79,7 +69,7 @@ fn slots(
     longest: u64,
     flood: Radios,
     queue: &mut [u64; QUEUE_SIZE],
-    stream: &mut [u32; STREAM_SIZE],
+    stream: &mut Stream,
     snapshots: &mut [u64],
 ) -> Radios
     requires { Sound settings flood × (flood.slot.0 + longest < count_bound)
@@ -89,11 +79,10 @@ fn slots(
         result (tables queue.new stream.new snapshots.new) }
 {
     let mut x = flood;
-    let mut more = longest;
     let mut place = 0usize;
-    while 0 < more {
+    // So many slots, or fewer: nothing is gone through.
+    for done in 0..longest {
         x = slot(settings, rows, x, queue, place, stream, snapshots);
-        more -= 1;
         if x.flooding == 0 {
             return x;
         }
@@ -116,9 +105,7 @@ fn empty_queue(queue: &mut [u64; QUEUE_SIZE], count: usize)
     requires { count ≤ queue_size }
     ensures { Emptied count queue.old queue.new }
 {
-    for i in 0..count {
-        queue[i] = 0;
-    }
+    queue[..count].fill(0);
 }
 
 // One round: a packet flooded by the initiator.
@@ -129,7 +116,7 @@ pub fn flood_identical_round(
     initiator: NodeId,
     flood: Radios,
     queue: &mut [u64; QUEUE_SIZE],
-    stream: &mut [u32; STREAM_SIZE],
+    stream: &mut Stream,
     snapshots: &mut [u64],
 ) -> Round
     requires { CanFlood settings longest initiator.0 flood (tables queue.old stream.old snapshots.old) }

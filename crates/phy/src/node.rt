@@ -13,18 +13,12 @@ pub enum NodeState {
     Sleep,
 }
 
-// The packet that a node holds, or none.
-#[derive(Clone, Copy)]
-pub enum Payload {
-    None,
-    Of(Packet),
-}
-
+// `payload` is the packet that the node holds, if it holds one.
 #[derive(Clone, Copy)]
 pub struct Node {
     pub state: NodeState,
     pub flood_remaining: u32,
-    pub payload: Payload,
+    pub payload: Option<Packet>,
     pub slots_listen: u64,
     pub slots_flood: u64,
     pub slots_sleep: u64,
@@ -37,7 +31,7 @@ pub fn new() -> Node
     Node {
         state: NodeState::Listen,
         flood_remaining: 0,
-        payload: Payload::None,
+        payload: None,
         slots_listen: 0,
         slots_flood: 0,
         slots_sleep: 0,

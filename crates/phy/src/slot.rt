@@ -9,8 +9,9 @@ ghost use Rattle.phy.specs.View.{TriedOn, CanTry, receivers_of, Advances, tables
 
 use super::snapshot::{Schedule, Shown, take_snapshots};
 use config::limits::{MAX_NODES, MAX_REPEATS};
+use network::members::members_of;
 use network::units::{NodeId, Slot};
-use random::draws::STREAM_SIZE;
+use random::draws::Stream;
 use random::reception::receive;
 
 // The queue of the flooding nodes has a place for each repeat.
@@ -44,7 +45,7 @@ pub struct Tried {
 
 // Where the radios of a run stand: the sets of the nodes that listen and that flood, and the slots that all
 // nodes have spent in each state. Of the snapshots, those from the number `first_stored` on go into a lent
-// slice. The stream of the draws stands in a lent table.
+// slice. The stream of the draws is lent too.
 #[derive(Clone, Copy)]
 pub struct Radios {
     pub listening: u64,
@@ -61,7 +62,7 @@ pub struct Radios {
 }
 
 // One attempt at node j.
-fn attempt(j: NodeId, rate: f64, stream: &mut [u32; STREAM_SIZE], t: Tried) -> Tried
+fn attempt(j: NodeId, rate: f64, stream: &mut Stream, t: Tried) -> Tried
     requires { (j.0 < set_bits) × (t.attempts + 1 < 2 ^ 64) × (t.successes + 1 < 2 ^ 64) }
     ensures { TriedOn rate 1 (j.0 ∷ []) t stream.old result stream.new }
 {
@@ -81,28 +82,25 @@ fn attempt(j: NodeId, rate: f64, stream: &mut [u32; STREAM_SIZE], t: Tried) -> T
 }
 
 // One attempt at each node of a set, ascending.
-fn attempts_at(set: u64, rate: f64, stream: &mut [u32; STREAM_SIZE], t: Tried) -> Tried
+fn attempts_at(set: u64, rate: f64, stream: &mut Stream, t: Tried) -> Tried
     requires { (t.attempts + set_bits < 2 ^ 64) × (t.successes + set_bits < 2 ^ 64) }
     ensures { TriedOn rate set_bits (among set_bits (hasNode «set»)) t stream.old result stream.new }
 {
     let mut tried = t;
-    let mut rest = set;
-    while rest != 0 {
-        let j = u64::trailing_zeros(rest) as usize;
+    for j in members_of(set) {
         tried = attempt(NodeId(j), rate, stream, tried);
-        rest = rest & (rest - 1);
     }
     tried
 }
 
-// Each flooding node tries its listening neighbours.
+// Each flooding node tries its listening neighbours. Only the contract asks n, for how many attempts there may be.
 fn attempts(
     rows: &[u64; MAX_NODES],
     n: usize,
     listening: u64,
     flooding: u64,
     rate: f64,
-    stream: &mut [u32; STREAM_SIZE],
+    stream: &mut Stream,
     t: Tried,
 ) -> Tried
     requires { CanTry n listening flooding t }
@@ -112,11 +110,8 @@ fn attempts(
         return t;
     }
     let mut tried = t;
-    let mut rest = flooding;
-    while rest != 0 {
-        let i = u64::trailing_zeros(rest) as usize;
+    for i in members_of(flooding) {
         tried = attempts_at(rows[i] & listening, rate, stream, tried);
-        rest = rest & (rest - 1);
     }
     tried
 }
@@ -158,7 +153,7 @@ pub fn slot(
     x: Radios,
     queue: &mut [u64; QUEUE_SIZE],
     place: usize,
-    stream: &mut [u32; STREAM_SIZE],
+    stream: &mut Stream,
     snapshots: &mut [u64],
 ) -> Radios
     requires { Sound settings x × (x.slot.0 < count_bound) × Meets settings place x (tables queue.old stream.old snapshots.old) }

@@ -29,11 +29,13 @@ fn take_snapshot(slot: Slot, shown: Shown, count: u64, snapshots: &mut [u64])
     let room = (snapshots.len() / SNAPSHOT_SIZE) as u64;
     if count < room {
         let at = SNAPSHOT_SIZE * (count as usize);
-        snapshots[at] = slot.0;
-        snapshots[at + 1] = shown.progress;
-        snapshots[at + 2] = shown.listening;
-        snapshots[at + 3] = shown.flooding;
-        snapshots[at + 4] = shown.sleeping;
+        snapshots[at..at + SNAPSHOT_SIZE].copy_from_slice(&[
+            slot.0,
+            shown.progress,
+            shown.listening,
+            shown.flooding,
+            shown.sleeping,
+        ]);
     }
 }
 
@@ -52,6 +54,7 @@ pub fn take_snapshots(
     let this = slot.0;
     let mut next = schedule.next.0;
     let mut count = schedule.count;
+    // Two counts go on from where the schedule stands, and are what it answers: a range would give back neither.
     while next <= this {
         take_snapshot(Slot(next), shown, count - first, snapshots);
         next += interval;

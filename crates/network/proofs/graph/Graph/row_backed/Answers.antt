@@ -1,0 +1,20 @@
+use Rattle.std.proofs.Common.{◌^◌, ◌<◌, ap₂, Bool, not, ◌&&◌, get_or, arith}
+use lib.Pow.{pow_pos}
+use borrow.Author.Tests.{lt-ltb, le-ltb}
+use Rattle.network.specs.Graph.{linked, row_backed}
+use Rattle.network.proofs.graph.Graph.row_backed.Goals as goal
+
+pub returns-then-full_set-set : goal.returns-then-full_set-set
+unfolding row_backed
+returns-then-full_set-set c =
+    let g = c.args.self.now in
+    rw (le-ltb (get_or g.rows c.args.i.0 0) (2 ^ g.nodes) (omega (arith, pow_pos g.nodes)))
+
+pub backed-requires : goal.backed-requires
+backed-requires c = (omega arith, (omega arith, omega (arith, pow_pos c.args.self.now.nodes)))
+
+pub returns : goal.returns
+unfolding row_backed linked
+returns c =
+    let narrow : get_or c.args.self.now.rows c.args.i.0 0 < 2 ^ c.args.self.now.nodes = omega (arith, pow_pos c.args.self.now.nodes) in
+    rw (lt-ltb _ _ narrow) (ap₂ (λ (x y : Bool). not x && y) c.has.ensures c.backed.ensures)
