@@ -2,15 +2,14 @@
 use Prim.Native.Nat.{ℕ, zero, suc, ◌+◌, ◌*◌, ◌%◌, ◌^◌, ◌≤◌, ◌<◌}
 use mathlib.Core.Path.{◌≡◌, refl, sym, ap, ap₂, subst, subst⁻¹, ◌∙◌}
 use mathlib.Core.Bool.{Bool, true, false, cond, ◌||◌}
-use mathlib.Core.List.{List, [], ◌∷◌, ◌++◌}
+use mathlib.Core.List.{List, [], ◌∷◌, ◌++◌, map}
 use mathlib.Core.Logic.{⊎_elim}
 use native.Mathlib.Nat.{eq-or-lt_of_le, le_of_suc-le-suc}
-use native.Mathlib.Numerals.{add-one, add-two}
 use native.Mathlib.Omega.{arith}
 use lib.Bits.{bit_and, bit_or}
 use lib.Dec.{eqb}
-use lib.ListN.{length, get_or, set, take, length-set}
-use lib.Seq.{sets, get_or-take, get_or-set_same, get_or-set_other, take-set-le}
+use lib.ListN.{length, get_or, set, replicate}
+use lib.Seq.{get_or-set_same, get_or-set_other}
 use borrow.Author.Tests.{eq-eqb, ne_eqb}
 use Rattle.config.specs.Limits.{max_terms}
 use Rattle.network.specs.Graph.{has, count}
@@ -19,9 +18,12 @@ use Rattle.random.proofs.Tables.{tabulate_cong, tabulate_snoc}
 use Rattle.phy.specs.Slot.{among}
 use Rattle.phy.proofs.Attempts.{among_more, among_skip}
 use Rattle.phy.proofs.Masks.{has_and, or_shifted_bit, has_insert}
+use Rattle.network.specs.declared.units.Slot.{Slot}
+use Rattle.pipeline.specs.declared.records.History.{History}
+use Rattle.pipeline.specs.declared.records.ProposalRecord.{ProposalRecord}
 use Rattle.pipeline.specs.declared.records.Recorded.{Recorded}
 use Rattle.pipeline.specs.Round.{Record, recorded, record_all}
-use Rattle.pipeline.specs.View.{Recording, Records, record_place, record_at, records_of}
+use Rattle.pipeline.specs.View.{Recording, Records, no_record, no_start, record_of, record_at, records_of, starts_of}
 
 -- ---- counts
 
@@ -49,42 +51,35 @@ count_more (suc n) j f g l e h = ⊎_elim last (λ b. before b (count_more n j f
         let same : ◌≡◌ {A = ℕ} (cond (g n) 1 0) (cond (f n) 1 0) = ap (λ (y : Bool). cond y 1 0) (h n (omega arith) ∙ ap (λ (y : Bool). y || f n) (ne_eqb n j (λ p. omega (arith, p)))) in
         omega (arith, same, more)
 
-pub records_few : {x : Recorded} {t : List ℕ} → Recording x t → x.count ≤ max_terms
+pub records_few : {x : Recorded} {t : History} → Recording x t → x.count ≤ max_terms
 records_few {x} d = omega (arith, d.few, count_le max_terms (has x.terms))
 
 -- where a term is not recorded there is room
-pub room_left : (x : Recorded) (t : List ℕ) (k : ℕ) → Recording x t → k < max_terms → has x.terms k ≡ false → x.count < max_terms
+pub room_left : (x : Recorded) (t : History) (k : ℕ) → Recording x t → k < max_terms → has x.terms k ≡ false → x.count < max_terms
 room_left x t k d h e =
     omega (arith, d.few, count_lt max_terms (has x.terms) (λ (j : ℕ). true) (λ i b q. refl) k h e refl, count_le max_terms (λ (j : ℕ). true))
 
--- ---- the history
+-- ---- starts
 
-module _ (l : List ℕ) (i a b c : ℕ) (fits : i + 2 < length l) where
-  abbrev three : List ℕ
-  three = set (set (set l i a) (i + 1) b) (i + 2) c
+pub start_is : (l : List Slot) (k : ℕ) → get_or (map (λ (s : Slot). s.0) l) k 0 ≡ (get_or l k no_start).0
+start_is [] k = refl
+start_is (s ∷ l) zero = refl
+start_is (s ∷ l) (suc k) = start_is l k
 
-  pub three_length : length three ≡ length l
-  three_length = simp length-set
+pub start_set : (l : List Slot) (k : ℕ) (s : Slot) → map (λ (q : Slot). q.0) (set l k s) ≡ set (map (λ (q : Slot). q.0) l) k s.0
+start_set [] k s = refl
+start_set (q ∷ l) zero s = refl
+start_set (q ∷ l) (suc k) s = ap (λ (m : List ℕ). q.0 ∷ m) (start_set l k s)
 
-  pub three_other : (j : ℕ) → j < i → get_or three j 0 ≡ get_or l j 0
-  three_other j h =
-      get_or-set_other (set (set l i a) (i + 1) b) (i + 2) j c 0 (λ p. omega (arith, p))
-      ∙ get_or-set_other (set l i a) (i + 1) j b 0 (λ p. omega (arith, p))
-      ∙ get_or-set_other l i j a 0 (λ p. omega (arith, p))
+-- where none was made
+pub starts_none_made : (m k : ℕ) → ◌≡◌ {A = ℕ} (get_or (map (λ (s : Slot). s.0) (replicate m no_start)) k 0) 0
+starts_none_made zero k = refl
+starts_none_made (suc m) zero = refl
+starts_none_made (suc m) (suc k) = starts_none_made m k
 
-  pub three_first : get_or three i 0 ≡ a
-  three_first =
-      get_or-set_other (set (set l i a) (i + 1) b) (i + 2) i c 0 (λ p. omega (arith, p))
-      ∙ get_or-set_other (set l i a) (i + 1) i b 0 (λ p. omega (arith, p))
-      ∙ get_or-set_same l i a 0 (omega arith)
-
-  pub three_second : get_or three (i + 1) 0 ≡ b
-  three_second =
-      get_or-set_other (set (set l i a) (i + 1) b) (i + 2) (i + 1) c 0 (λ p. omega (arith, p))
-      ∙ get_or-set_same (set l i a) (i + 1) b 0 (simp length-set (omega arith))
-
-  pub three_third : get_or three (i + 2) 0 ≡ c
-  three_third = get_or-set_same (set (set l i a) (i + 1) b) (i + 2) c 0 (simp length-set (omega arith))
+pub start_count : (l : List Slot) → length (map (λ (q : Slot). q.0) l) ≡ length l
+start_count [] = refl
+start_count (q ∷ l) = ap suc (start_count l)
 
 -- ---- the list
 
@@ -99,55 +94,31 @@ recorded_append t (q ∷ rs) r = ap (λ (b : Bool). eqb t q.id || b) (recorded_a
     swap false true c = refl
     swap false false c = refl
 
-module _ (x : Recorded) (l : List ℕ) (t start end : ℕ) (d : Recording x l) (small : t < max_terms) (word : x.terms < 2 ^ 64) (new : has x.terms t ≡ false) where
-  abbrev at : ℕ
-  at = record_place x.count
-
-  abbrev added : List ℕ
-  added = set (set (set l at t) (at + 1) start) (at + 2) end
-
-  added_sets : sets l at (t ∷ start ∷ end ∷ []) ≡ added
-  added_sets = rw (add-one, add-two)
+module _ (x : Recorded) (h : History) (r : ProposalRecord) (d : Recording x h) (small : r.id.0 < max_terms) (word : x.terms < 2 ^ 64) (new : has x.terms r.id.0 ≡ false) (long : length h.records ≡ max_terms) where
+  abbrev added : History
+  added = record { starts = h.starts; records = set h.records x.count r }
 
   abbrev then : Recorded
-  then = record { count = x.count + 1; terms = bit_or x.terms (1 * 2 ^ t % 2 ^ 64) }
+  then = record { count = x.count + 1; terms = bit_or x.terms (1 * 2 ^ r.id.0 % 2 ^ 64) }
 
-  room : at + 2 < length l
-  room = omega (arith, room_left x l t d small new, d.room)
-
-  added_list : records_of (x.count + 1) added ≡ records_of x.count l ++ (record { id = t; start = start; end = end } ∷ [])
+  added_list : records_of (x.count + 1) added ≡ records_of x.count h ++ (record_of r ∷ [])
   unfolding records_of
   added_list =
       tabulate_snoc x.count (record_at added)
-      ∙ ap₂ (λ (m : List Record) (r : Record). m ++ (r ∷ []))
-      (tabulate_cong x.count _ _ (λ k h. λ i. record {
-        id = three_other l at t start end room (record_place k) (omega arith) i;
-        start = three_other l at t start end room (record_place k + 1) (omega arith) i;
-        end = three_other l at t start end room (record_place k + 2) (omega arith) i;
-      }))
-      (λ i. record {
-        id = three_first l at t start end room i;
-        start = three_second l at t start end room i;
-        end = three_third l at t start end room i;
-      })
+      ∙ ap₂ (λ (m : List Record) (q : Record). m ++ (q ∷ []))
+      (tabulate_cong x.count (record_at added) (record_at h) (λ k l. ap record_of (get_or-set_other h.records x.count k r no_record (λ p. omega (arith, p)))))
+      (ap record_of (get_or-set_same h.records x.count r no_record (omega (arith, room_left x h r.id.0 d small new, long))))
 
-  has_added : (k : ℕ) → k < max_terms → has then.terms k ≡ (eqb k t || has x.terms k)
-  has_added k h = ap (λ (s : ℕ). has s k) (or_shifted_bit 64 word small) ∙ has_insert 64 word small k h
+  has_added : (k : ℕ) → k < max_terms → has then.terms k ≡ (eqb k r.id.0 || has x.terms k)
+  has_added k l = ap (λ (s : ℕ). has s k) (or_shifted_bit 64 word small) ∙ has_insert 64 word small k l
 
   added_recording : Recording then added
   added_recording =
       record {
-        room = three_length l at t start end room ∙ d.room;
-        few = ap (λ (k : ℕ). k + 1) d.few ∙ sym (count_more max_terms t (has x.terms) (has then.terms) small new has_added);
-        known = λ k h. has_added k h ∙ ap (λ (b : Bool). eqb k t || b) (d.known k h)
-            ∙ sym (recorded_append k (records_of x.count l) (record { id = t; start = start; end = end })) ∙ ap (recorded k) (sym added_list);
+        few = ap (λ (k : ℕ). k + 1) d.few ∙ sym (count_more max_terms r.id.0 (has x.terms) (has then.terms) small new has_added);
+        known = λ k l. has_added k l ∙ ap (λ (b : Bool). eqb k r.id.0 || b) (d.known k l)
+            ∙ sym (recorded_append k (records_of x.count h) (record_of r)) ∙ ap (recorded k) (sym added_list);
       }
-
-  added_starts : take max_terms added ≡ take max_terms l
-  added_starts =
-      take-set-le max_terms (set (set l at t) (at + 1) start) (at + 2) end (omega arith)
-      ∙ take-set-le max_terms (set l at t) (at + 1) start (omega arith)
-      ∙ take-set-le max_terms l at t (omega arith)
 
 -- ---- all terms of a list
 
@@ -176,55 +147,54 @@ record_new starts end t rs e = ap (λ (b : Bool). cond b rs (rs ++ (record { id 
 
 -- ---- what the code's functions do with the history
 
-pub records_none : {end : ℕ} {x : Recorded} {l : List ℕ} → Recording x l → Records end [] x l x l
+pub records_none : {end : ℕ} {x : Recorded} {h : History} → Recording x h → Records end [] x h x h
 unfolding record_all
 records_none d = record { recording = d; records = refl; starts = refl }
 
-pub records_then : {end : ℕ} {ts us : List ℕ} {x y z : Recorded} {l m n : List ℕ} → Records end ts x l y m → Records end us y m z n → Records end (ts ++ us) x l z n
-records_then {end} {ts} {us} {x} {y} {z} {l} {m} {n} f g =
+pub records_then : {end : ℕ} {ts us : List ℕ} {x y z : Recorded} {h i j : History} → Records end ts x h y i → Records end us y i z j → Records end (ts ++ us) x h z j
+records_then {end} {ts} {us} {x} {y} {z} {h} f g =
     record {
       recording = g.recording;
       records =
           g.records
-          ∙ ap₂ (λ (s : List ℕ) (rs : List Record). record_all s end us rs) f.starts f.records
-          ∙ sym (record_all_append (take max_terms l) end ts us (records_of x.count l));
+          ∙ ap₂ (λ (s : List Slot) (rs : List Record). record_all (map (λ (q : Slot). q.0) s) end us rs) f.starts f.records
+          ∙ sym (record_all_append (starts_of h) end ts us (records_of x.count h));
       starts = g.starts ∙ f.starts;
     }
 
 -- no number from i to below n has f
-pub records_skip : {end i n : ℕ} (f : ℕ → Bool) {x y : Recorded} {l m : List ℕ} → i ≤ n → ((k : ℕ) → i ≤ k → k < n → f k ≡ false) → Records end (among i f) x l y m
-    → Records end (among n f) x l y m
-records_skip {end} {i} {n} f {x} {y} {l} {m} h none = subst⁻¹ (λ (ts : List ℕ). Records end ts x l y m) (among_skip i n f h none)
+pub records_skip : {end i n : ℕ} (f : ℕ → Bool) {x y : Recorded} {h j : History} → i ≤ n → ((k : ℕ) → i ≤ k → k < n → f k ≡ false) → Records end (among i f) x h y j
+    → Records end (among n f) x h y j
+records_skip {end} {i} {n} f {x} {y} {h} {j} l none = subst⁻¹ (λ (ts : List ℕ). Records end ts x h y j) (among_skip i n f l none)
 
 -- one number more has f
-pub records_more : {end k : ℕ} (f : ℕ → Bool) {x y z : Recorded} {l m n : List ℕ} → f k ≡ true → Records end (among k f) x l y m → Records end (k ∷ []) y m z n
-    → Records end (among (k + 1) f) x l z n
-records_more {end} {k} f {x} {y} {z} {l} {m} {n} e s t = subst (λ (ts : List ℕ). Records end ts x l z n) (among_more k f true e) (records_then s t)
+pub records_more : {end k : ℕ} (f : ℕ → Bool) {x y z : Recorded} {h i j : History} → f k ≡ true → Records end (among k f) x h y i → Records end (k ∷ []) y i z j
+    → Records end (among (k + 1) f) x h z j
+records_more {end} {k} f {x} {y} {z} {h} {i} {j} e s t = subst (λ (ts : List ℕ). Records end ts x h z j) (among_more k f true e) (records_then s t)
 
 -- the records, by what the starts, the terms and the records before them are
-pub records_are : {end : ℕ} {ts us : List ℕ} (ss : List ℕ) {x y : Recorded} {l m : List ℕ} {rs : List Record} → Records end ts x l y m → ts ≡ us → records_of x.count l ≡ rs
-    → ((t : ℕ) → get_or (take max_terms l) t 0 ≡ get_or ss t 0) → records_of y.count m ≡ record_all ss end us rs
-records_are {end} {ts} {us} ss {x} {y} {l} {m} {rs} f e q h =
-    f.records ∙ ap₂ (record_all (take max_terms l) end) e q ∙ record_all_cong (take max_terms l) ss end us rs h
+pub records_are : {end : ℕ} {ts us : List ℕ} (ss : List ℕ) {x y : Recorded} {h j : History} {rs : List Record} → Records end ts x h y j → ts ≡ us → records_of x.count h ≡ rs
+    → ((t : ℕ) → get_or (starts_of h) t 0 ≡ get_or ss t 0) → records_of y.count j ≡ record_all ss end us rs
+records_are {end} {ts} {us} ss {x} {y} {h} {j} {rs} f e q s =
+    f.records ∙ ap₂ (record_all (starts_of h) end) e q ∙ record_all_cong (starts_of h) ss end us rs s
 
 -- one record more
-pub records_one : (x : Recorded) (l : List ℕ) (t end : ℕ) (d : Recording x l) (small : t < max_terms) (word : x.terms < 2 ^ 64) (new : has x.terms t ≡ false) {m : List ℕ}
-    → m ≡ sets l (record_place x.count) (t ∷ get_or l t 0 ∷ end ∷ []) → Records end (t ∷ []) x l (then x l t (get_or l t 0) end d small word new) m
-records_one x l t end d small word new {m} e =
-    subst⁻¹ (Records end (t ∷ []) x l (then x l t (get_or l t 0) end d small word new)) (e ∙ added_sets x l t (get_or l t 0) end d small word new)
-    (record {
-      recording = added_recording x l t (get_or l t 0) end d small word new;
+pub records_one : (x : Recorded) (h : History) (r : ProposalRecord) (d : Recording x h) (small : r.id.0 < max_terms) (word : x.terms < 2 ^ 64) (new : has x.terms r.id.0 ≡ false)
+    (long : length h.records ≡ max_terms) → r.start ≡ get_or h.starts r.id.0 no_start → Records r.end.0 (r.id.0 ∷ []) x h (then x h r d small word new long) (added x h r d small word new long)
+records_one x h r d small word new long start =
+    record {
+      recording = added_recording x h r d small word new long;
       records =
-          added_list x l t (get_or l t 0) end d small word new
-          ∙ ap (λ (k : ℕ). records_of x.count l ++ (record { id = t; start = k; end = end } ∷ [])) (sym (get_or-take max_terms l t 0 small))
-          ∙ sym (record_new (take max_terms l) end t (records_of x.count l) (sym (d.known t small) ∙ new));
-      starts = added_starts x l t (get_or l t 0) end d small word new;
-    })
+          added_list x h r d small word new long
+          ∙ ap (λ (k : ℕ). records_of x.count h ++ (record { id = r.id.0; start = k; end = r.end.0 } ∷ [])) (ap (λ (s : Slot). s.0) start ∙ sym (start_is h.starts r.id.0))
+          ∙ sym (record_new (starts_of h) r.end.0 r.id.0 (records_of x.count h) (sym (d.known r.id.0 small) ∙ new));
+      starts = refl;
+    }
 
 -- a term that is recorded
-pub records_known : {x : Recorded} {l : List ℕ} (end t : ℕ) → Recording x l → t < max_terms → has x.terms t ≡ true → Records end (t ∷ []) x l x l
-records_known {x} {l} end t d small e =
-    record { recording = d; records = sym (record_known (take max_terms l) end t (records_of x.count l) (sym (d.known t small) ∙ e)); starts = refl }
+pub records_known : {x : Recorded} {h : History} (end t : ℕ) → Recording x h → t < max_terms → has x.terms t ≡ true → Records end (t ∷ []) x h x h
+records_known {x} {h} end t d small e =
+    record { recording = d; records = sym (record_known (starts_of h) end t (records_of x.count h) (sym (d.known t small) ∙ e)); starts = refl }
 
 -- terms that are all recorded
 known_same : (starts : List ℕ) (end : ℕ) (f : ℕ → Bool) (rs : List Record) (k : ℕ) → ((t : ℕ) → t < k → f t ≡ true → recorded t rs ≡ true) → record_all starts end (among k f) rs ≡ rs
@@ -239,11 +209,11 @@ known_same starts end f rs (suc k) h =
     last true e = record_known starts end k rs (h k (omega arith) e)
     last false e = refl
 
-pub records_all_known : {x : Recorded} {l : List ℕ} (end newly : ℕ) → Recording x l → bit_and newly x.terms ≡ newly → Records end (among max_terms (has newly)) x l x l
-records_all_known {x} {l} end newly d e =
+pub records_all_known : {x : Recorded} {h : History} (end newly : ℕ) → Recording x h → bit_and newly x.terms ≡ newly → Records end (among max_terms (has newly)) x h x h
+records_all_known {x} {h} end newly d e =
     record {
       recording = d;
-      records = sym (known_same (take max_terms l) end (has newly) (records_of x.count l) max_terms
-          (λ t b h. sym (d.known t b) ∙ (and_both (has newly t) (has x.terms t) (sym (has_and newly x.terms t) ∙ ap (λ (w : ℕ). has w t) e ∙ h)).1));
+      records = sym (known_same (starts_of h) end (has newly) (records_of x.count h) max_terms
+          (λ t b g. sym (d.known t b) ∙ (and_both (has newly t) (has x.terms t) (sym (has_and newly x.terms t) ∙ ap (λ (w : ℕ). has w t) e ∙ g)).1));
       starts = refl;
     }

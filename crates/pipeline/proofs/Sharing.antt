@@ -1,48 +1,48 @@
 -- What the nodes share between rounds: states by node, starts by term, and the terms that a commit answers. Assumes nothing.
+use Rattle.std.specs.Prelude.{Option, Some, None}
 use Prim.Native.Nat.{ℕ, zero, suc, ◌+◌, ◌≤◌, ◌<◌}
 use mathlib.Core.Path.{◌≡◌, refl, sym, ap, ap₂, subst, ◌∙◌}
 use mathlib.Core.Bool.{Bool, true, false, cond, not, ◌&&◌}
-use mathlib.Core.List.{List, [], ◌∷◌, ◌++◌, append-nil}
-use mathlib.Core.Logic.{◌⊎◌, inl, inr, ⊎_elim}
+use mathlib.Core.List.{List, [], ◌∷◌, ◌++◌, append-nil, map}
+use mathlib.Core.Logic.{⊎_elim}
 use native.Mathlib.Nat.{le_refl, add-zero, eq-or-lt_of_le}
 use native.Mathlib.Numerals.{add-one}
 use native.Mathlib.Omega.{arith}
 use lib.Count.{ones}
 use lib.Dec.{eqb, ltb}
 use lib.ListN.{length, get_or, set, take, replicate, length-set, get_or-eq_default}
-use lib.Seq.{take-suc-set, take-take, get_or-take, get_or-set_same, get_or-set_other, length-take-le}
-use borrow.Author.Tests.{lt-ltb, le-ltb, ltb-true}
-use Rattle.config.specs.Limits.{max_terms}
+use lib.Seq.{take-suc-set, get_or-take, get_or-set_other}
+use Rattle.std.proofs.Common.{length-take}
+use borrow.Author.Tests.{lt-ltb, le-ltb, ltb-true, ltb-false}
+use Rattle.config.specs.Limits.{max_nodes, max_terms}
 use Rattle.network.specs.Graph.{has}
 use Rattle.network.specs.declared.units.Slot.{Slot}
-use Rattle.random.proofs.Tables.{length_tabulate, get_d_tabulate, is_tabulate, tabulate_cong}
+use Rattle.random.specs.Table.{tabulate}
+use Rattle.random.proofs.Tables.{length_tabulate, get_d_tabulate, is_tabulate}
+use Rattle.network.specs.declared.units.Term.{Term}
 use Rattle.phy.specs.Slot.{among}
-use Rattle.phy.specs.declared.packet.LastAccepted.{LastAccepted}
-use Rattle.phy.specs.declared.packet.Nack.{Nack}
 use Rattle.phy.specs.declared.packet.Packet.{Packet}
 use Rattle.phy.specs.declared.packet.Piggyback.{Piggyback}
 use Rattle.phy.proofs.Attempts.{among_cong, among_skip}
-use Rattle.protocol.specs.Layout.{first_of}
+use Rattle.protocol.specs.declared.state.PaxosState.{PaxosState}
 use Rattle.protocol.specs.Paxos.{LogEntry, State, empty, logged, quorum, greatest_quorum, newly_below, newly_to, term_set}
 use Rattle.protocol.specs.Turns.{counter_after, propose, announce, initiator_turn, participant_turn}
-use Rattle.protocol.specs.View.{view, logged_set, entry_at, log_of, Kept, Wrote, last_below, back_below}
-use Rattle.protocol.proofs.Frame.{Same, wrote_same, wrote_same_before, frame_view, frame_kept}
+use Rattle.protocol.specs.View.{view, entry_at, log_of, Kept, last_below, back_below}
+use Rattle.protocol.proofs.Places.{get_d_set}
 use Rattle.protocol.proofs.Commit.{newly_bit}
 use Rattle.protocol.proofs.Kept.{last_mono, kept_mono}
+use Rattle.pipeline.specs.declared.records.History.{History}
+use Rattle.pipeline.specs.declared.records.ProposalRecord.{ProposalRecord}
 use Rattle.pipeline.specs.declared.records.Recorded.{Recorded}
 use Rattle.pipeline.specs.Round.{Shared, recorded, state_of, one_nack, latest, one_piggyback, take_turn, turns}
-use Rattle.pipeline.specs.View.{Recording, Records, Started, Starts, AllKept, Sharing, TakesTurn, record_place, records_of, states_of, shared_of, without_piggyback}
+use Rattle.pipeline.specs.View.{Recording, Records, Started, Starts, AllKept, Sharing, TakesTurn, no_record, record_of, records_of, starts_of, outside, state_in, states_of, shared_of, without_piggyback}
+use Rattle.pipeline.proofs.Recordings.{start_set, start_count}
+use Rattle.pipeline.proofs.StateTables.{table_fits}
 use Rattle.pipeline.specs.declared.carry.Carry.{Carry}
 
 pub counter_after_is : (b : Bool) (c : ℕ) → counter_after b c ≡ c + cond b 1 0
 counter_after_is true c = refl
 counter_after_is false c = omega arith
-
-equal_or_not : (k i : ℕ) → (k ≡ i) ⊎ (k ≡ i → ⊥)
-equal_or_not zero zero = inl refl
-equal_or_not zero (suc i) = inr (λ p. omega (arith, p))
-equal_or_not (suc k) zero = inr (λ p. omega (arith, p))
-equal_or_not (suc k) (suc i) = ⊎_elim (λ p. inl (ap suc p)) (λ q. inr (λ p. q (omega (arith, p)))) (equal_or_not k i)
 
 -- ---- states
 
@@ -60,56 +60,39 @@ all_set Q (x ∷ states) zero s all q (suc j) = all (suc j)
 all_set Q (x ∷ states) (suc i) s all q zero = all 0
 all_set Q (x ∷ states) (suc i) s all q (suc j) = all_set Q states i s (λ k. all (suc k)) q j
 
-pub state_at : (n : ℕ) (b : List ℕ) (j : ℕ) → j < n → state_of (states_of n b) j ≡ view b (first_of j)
+pub state_at : (n : ℕ) (b : List PaxosState) (j : ℕ) → j < n → state_of (states_of n b) j ≡ view (state_in b j)
 unfolding states_of
-state_at n b j h = get_d_tabulate n (λ (k : ℕ). view b (first_of k)) j empty h
+state_at n b j h = get_d_tabulate n (λ (k : ℕ). view (state_in b k)) j empty h
 
--- a node's places are not those of another
-untouched : {b b' : List ℕ} (j k : ℕ) → Wrote (first_of j) b b' → (k ≡ j → ⊥) → Same (first_of k) b b'
-untouched {b} {b'} j k w ne =
-    ⊎_elim (λ e. absurd (ne e)) (λ _. ⊎_elim (λ h. wrote_same_before w (omega (arith, h))) (λ h. wrote_same w (omega (arith, h))) (apart j k ne)) (equal_or_not k j)
-  where
-    apart : (j k : ℕ) → (k ≡ j → ⊥) → (k < j) ⊎ (j < k)
-    apart zero zero q = absurd (q refl)
-    apart zero (suc k) q = inr (omega arith)
-    apart (suc j) zero q = inl (omega arith)
-    apart (suc j) (suc k) q = ⊎_elim (λ h. inl (omega (arith, h))) (λ h. inr (omega (arith, h))) (apart j k (λ p. q (ap suc p)))
+-- there is room for each node
+pub in_table : {c n : ℕ} {b : List PaxosState} → AllKept c n b → n ≤ max_nodes → (j : ℕ) → j < n → j < length b
+in_table {n = n} a few j h = omega (arith, a.room, table_fits n few)
 
-pub states_set : {c : ℕ} (n : ℕ) (b b' : List ℕ) (j : ℕ) (v : State) → AllKept c n b → j < n → Wrote (first_of j) b b' → view b' (first_of j) ≡ v
-    → states_of n b' ≡ set (states_of n b) j v
+pub states_set : (n : ℕ) (b : List PaxosState) (j : ℕ) (s : PaxosState) (v : State) → j < n → j < length b → view s ≡ v
+    → states_of n (set b j s) ≡ set (states_of n b) j v
 unfolding states_of
-states_set n b b' j v a h w e =
-    sym (is_tabulate n (λ (k : ℕ). view b' (first_of k)) empty (set (states_of n b) j v) (length-set (states_of n b) j v ∙ length_tabulate n (λ (k : ℕ). view b (first_of k)))
-    (λ k l. ⊎_elim (λ q. here k q) (λ q. there k l q) (equal_or_not k j)))
+states_set n b j s v h room e =
+    sym (is_tabulate n (λ (k : ℕ). view (state_in (set b j s) k)) empty (set (states_of n b) j v) (length-set (states_of n b) j v ∙ length_tabulate n (λ (k : ℕ). view (state_in b k)))
+    (λ k l.
+    get_d_set (states_of n b) j k v empty (omega (arith, length_tabulate n (λ (m : ℕ). view (state_in b m))))
+    ∙ ap (cond (eqb k j) v) (state_at n b k l)
+    ∙ ap (λ (x : State). cond (eqb k j) x (view (state_in b k))) (sym e)
+    ∙ under (eqb k j) (state_in b k)
+    ∙ ap view (sym (get_d_set b j k s outside room))))
   where
-    here : (k : ℕ) → k ≡ j → get_or (set (states_of n b) j v) k empty ≡ view b' (first_of k)
-    here k q =
-        ap (λ (m : ℕ). get_or (set (states_of n b) j v) m empty) q
-        ∙ get_or-set_same (states_of n b) j v empty (omega (arith, length_tabulate n (λ (m : ℕ). view b (first_of m))))
-        ∙ sym e
-        ∙ ap (λ (m : ℕ). view b' (first_of m)) (sym q)
-
-    there : (k : ℕ) → k < n → (k ≡ j → ⊥) → get_or (set (states_of n b) j v) k empty ≡ view b' (first_of k)
-    there k l q =
-        get_or-set_other (states_of n b) j k v empty q
-        ∙ state_at n b k l
-        ∙ sym (frame_view (untouched j k w q) (a.each k l))
+    under : (x : Bool) (q : PaxosState) → cond x (view s) (view q) ≡ view (cond x s q)
+    under true q = refl
+    under false q = refl
 
 -- ---- starts
 
-side : (t c : ℕ) → (t < c) ⊎ (c ≤ t)
-side t zero = inr (omega arith)
-side zero (suc c) = inl (omega arith)
-side (suc t) (suc c) = ⊎_elim (λ h. inl (omega (arith, h))) (λ h. inr (omega (arith, h))) (side t c)
-
 -- a start is that of the proposals made, and 0 for a term that is none
-pub start_at : {c : ℕ} {l : List ℕ} → Started c l → c ≤ max_terms → (t : ℕ) → get_or (take max_terms l) t 0 ≡ get_or (take c l) t 0
-start_at {c} {l} s few t =
-    ⊎_elim
-    (λ h. get_or-take max_terms l t 0 (omega arith) ∙ sym (get_or-take c l t 0 h))
-    (λ h. ⊎_elim (λ w. get_or-take max_terms l t 0 w ∙ s.unused t h w) (λ w. get_or-eq_default (take max_terms l) 0 (omega (arith, length-take-le max_terms l (omega (arith, s.room))))) (side t max_terms)
-    ∙ sym (get_or-eq_default (take c l) 0 (omega (arith, length-take-le c l (omega (arith, s.room))))))
-    (side t c)
+pub start_at : {c : ℕ} {h : History} → Started c h → (t : ℕ) → get_or (starts_of h) t 0 ≡ get_or (take c (starts_of h)) t 0
+start_at {c} {h} s t = go (ltb t c) refl
+  where
+    go : (x : Bool) → ltb t c ≡ x → get_or (starts_of h) t 0 ≡ get_or (take c (starts_of h)) t 0
+    go true e = sym (get_or-take c (starts_of h) t 0 (ltb-true t c e))
+    go false e = s.unused t (ltb-false t c e) ∙ sym (get_or-eq_default (take c (starts_of h)) 0 (omega (arith, length-take c (starts_of h), ltb-false t c e)))
 
 -- ---- what a commit answers
 
@@ -118,7 +101,7 @@ unfolding greatest_quorum
 greatest_below zero n s = tt
 greatest_below (suc k) n s = go (greatest_below k n s) (quorum n (s.pending k))
   where
-    go : last_below k (greatest_quorum k n s) → (b : Bool) → last_below (suc k) (cond b (LastAccepted.At (record { 0 = k })) (greatest_quorum k n s))
+    go : last_below k (greatest_quorum k n s) → (b : Bool) → last_below (suc k) (cond b (Some (record { 0 = k })) (greatest_quorum k n s))
     go h true = le_refl (suc k)
     go h false = last_mono (greatest_quorum k n s) (omega arith) h
 
@@ -149,12 +132,12 @@ newly_list k l h =
     ∙ among_cong k (has (term_set (newly_below k l))) (λ (t : ℕ). not (logged t l)) (λ t b. newly_has k t l ∙ ap (λ (x : Bool). x && not (logged t l)) (lt-ltb t k b))
     ∙ sym (newly_unlogged k l)
 
-pub newly_among : (last : LastAccepted) (l : List LogEntry) → last_below max_terms last → among max_terms (has (term_set (newly_to last l))) ≡ newly_to last l
+pub newly_among : (last : Option Term) (l : List LogEntry) → last_below max_terms last → among max_terms (has (term_set (newly_to last l))) ≡ newly_to last l
 unfolding newly_to newly_below
-newly_among LastAccepted.None l h = newly_list 0 l (omega arith)
-newly_among (LastAccepted.At u) l h = newly_list (suc u.0) l h
+newly_among None l h = newly_list 0 l (omega arith)
+newly_among (Some u) l h = newly_list (suc u.0) l h
 
-pub initiator_newly : (i n c : ℕ) (b : Bool) (pb : Piggyback) (s : State) → among max_terms (has (term_set (initiator_turn i n c b pb s).newly)) ≡ (initiator_turn i n c b pb s).newly
+pub initiator_newly : (i n c : ℕ) (b : Bool) (pb : Option Piggyback) (s : State) → among max_terms (has (term_set (initiator_turn i n c b pb s).newly)) ≡ (initiator_turn i n c b pb s).newly
 unfolding initiator_turn announce
 initiator_newly i n c b pb s = newly_among (greatest_quorum max_terms n (propose b i c s)) (propose b i c s).log (greatest_below max_terms n (propose b i c s))
 
@@ -164,70 +147,68 @@ participant_newly i p s h = newly_among p.last_accepted_term s.log h
 
 -- ---- one start more
 
-pub starts_one : (c v : ℕ) (l : List ℕ) → Started c l → c < max_terms → Starts c true v l (set l c v)
-starts_one c v l s h =
+pub starts_one : (c : ℕ) (v : Slot) (h : History) → Started c h → c < length h.starts → Starts c true v.0 h (record { starts = set h.starts c v; records = h.records })
+starts_one c v h s room =
+    let l = starts_of h in
+    let e = start_set h.starts c v in
     record {
-      started = record { room = length-set l c v ∙ s.room; unused = λ t b w. get_or-set_other l c t v 0 (λ p. omega (arith, p)) ∙ s.unused t (omega arith) w };
-      starts = ap (λ (k : ℕ). take k (set l c v)) (add-one c) ∙ take-suc-set l c v (omega (arith, s.room));
-      records = λ k b. get_or-set_other l c k v 0 (λ p. omega (arith, p));
+      started = record {
+        unused = λ t b.
+            ap (λ (m : List ℕ). get_or m t 0) e ∙ get_or-set_other l c t v.0 0 (λ p. omega (arith, p)) ∙ s.unused t (omega arith);
+      };
+      starts =
+          ap (take (c + 1)) e ∙ ap (λ (k : ℕ). take k (set l c v.0)) (add-one c) ∙ take-suc-set l c v.0 (omega (arith, start_count h.starts, room));
+      records = refl;
     }
 
-pub starts_none : (c v : ℕ) (l : List ℕ) → Started c l → Starts c false v l l
-starts_none c v l s =
+pub starts_none : (c v : ℕ) (h : History) → Started c h → Starts c false v h h
+starts_none c v h s =
     record {
-      started = record { room = s.room; unused = λ t b w. s.unused t (omega arith) w };
-      starts = ap (λ (k : ℕ). take k l) (add-zero c) ∙ sym (append-nil (take c l));
-      records = λ k b. refl;
+      started = record { unused = λ t b. s.unused t (omega arith) };
+      starts = ap (λ (k : ℕ). take k (starts_of h)) (add-zero c) ∙ sym (append-nil (take c (starts_of h)));
+      records = refl;
     }
 
 -- the records are what they were
-pub starts_records : {c slot : ℕ} {p : Bool} {l l' : List ℕ} (m : ℕ) → Starts c p slot l l' → records_of m l' ≡ records_of m l
+pub starts_records : {c slot : ℕ} {p : Bool} {h h' : History} (m : ℕ) → Starts c p slot h h' → records_of m h' ≡ records_of m h
 unfolding records_of
-starts_records {c} {slot} {p} {l} {l'} m s =
-    tabulate_cong m _ _ (λ k h. λ i. record { id = s.records (record_place k) (omega arith) i; start = s.records (record_place k + 1) (omega arith) i; end = s.records (record_place k + 2) (omega arith) i })
+starts_records m s = ap (λ (l : List ProposalRecord). tabulate m (λ (k : ℕ). record_of (get_or l k no_record))) s.records
 
-pub starts_recording : {c slot : ℕ} {p : Bool} {l l' : List ℕ} (x : Recorded) → Starts c p slot l l' → Recording x l → Recording x l'
-unfolding records_of
-starts_recording {c} {slot} {p} {l} {l'} x s d =
-    record {
-      room = s.started.room;
-      few = d.few;
-      known = λ k h. d.known k h ∙ ap (recorded k) (sym (starts_records x.count s));
-    }
+pub starts_recording : {c slot : ℕ} {p : Bool} {h h' : History} (x : Recorded) → Starts c p slot h h' → Recording x h → Recording x h'
+starts_recording x s d =
+    record { few = d.few; known = λ k l. d.known k l ∙ ap (recorded k) (sym (starts_records x.count s)) }
 
 -- what is recorded leaves the starts
-pub starts_same : {end : ℕ} {ts : List ℕ} {x y : Recorded} {l l' : List ℕ} → Records end ts x l y l' → (k m : ℕ) → k ≡ m → m ≤ max_terms → take k l' ≡ take m l
-starts_same {l = l} {l' = l'} f k m e h = ap (λ (c : ℕ). take c l') e ∙ sym (take-take m max_terms l' h) ∙ ap (take m) f.starts ∙ take-take m max_terms l h
+pub starts_same : {end : ℕ} {ts : List ℕ} {x y : Recorded} {h h' : History} → Records end ts x h y h' → (k m : ℕ) → k ≡ m → take k (starts_of h') ≡ take m (starts_of h)
+starts_same f k m e = ap₂ (λ (i : ℕ) (l : List Slot). take i (map (λ (s : Slot). s.0) l)) e f.starts
 
-pub started_same : {end c : ℕ} {ts : List ℕ} {x y : Recorded} {l l' : List ℕ} → Records end ts x l y l' → Started c l → Started c l'
-started_same {l = l} {l' = l'} f s =
-    record {
-      room = f.recording.room;
-      unused = λ k b w. sym (get_or-take max_terms l' k 0 w) ∙ ap (λ (m : List ℕ). get_or m k 0) f.starts ∙ get_or-take max_terms l k 0 w ∙ s.unused k b w;
-    }
+pub started_same : {end c : ℕ} {ts : List ℕ} {x y : Recorded} {h h' : History} → Records end ts x h y h' → Started c h → Started c h'
+started_same f s =
+    record { unused = λ k b. ap (λ (l : List Slot). get_or (map (λ (q : Slot). q.0) l) k 0) f.starts ∙ s.unused k b }
 
 -- the same at another name of the counter
-pub started_as : {l : List ℕ} {m n : ℕ} → m ≡ n → Started m l → Started n l
-started_as {l} e = subst (λ (k : ℕ). Started k l) e
+pub started_as : {h : History} {m n : ℕ} → m ≡ n → Started m h → Started n h
+started_as {h} e = subst (λ (k : ℕ). Started k h) e
 
-pub kept_as : {b : List ℕ} {at m n : ℕ} → m ≡ n → Kept m b at → Kept n b at
-kept_as {b} {at} e = subst (λ (k : ℕ). Kept k b at) e
+pub kept_as : {s : PaxosState} {m n : ℕ} → m ≡ n → Kept m s → Kept n s
+kept_as {s} e = subst (λ (k : ℕ). Kept k s) e
 
 -- ---- all states kept
 
-pub kept_set : {c d n : ℕ} {b b' : List ℕ} (j : ℕ) → AllKept c n b → c ≤ d → d ≤ max_terms → Wrote (first_of j) b b' → Kept d b' (first_of j) → AllKept d n b'
-kept_set {c} {d} {n} {b} {b'} j a up most w k =
+pub kept_set : {c d n : ℕ} {b : List PaxosState} {s : PaxosState} (j : ℕ) → AllKept c n b → c ≤ d → d ≤ max_terms → j < length b → Kept d s → AllKept d n (set b j s)
+kept_set {c} {d} {n} {b} {s} j a up most room k =
     record {
-      room = w.size ∙ a.room;
-      each = λ i h. ⊎_elim
-          (λ e. subst (λ (m : ℕ). Kept d b' (first_of m)) (sym e) k)
-          (λ q. kept_mono up most (frame_kept (untouched j i w q) (a.each i h)))
-          (equal_or_not i j);
+      room = length-set b j s ∙ a.room;
+      each = λ i h. rw (get_d_set b j i s outside room) (go (eqb i j) (a.each i h));
     }
+  where
+    go : {q : PaxosState} (x : Bool) → Kept c q → Kept d (cond x s q)
+    go true old = k
+    go false old = kept_mono up most old
 
-pub nack_at_most : (n : Nack) → one_nack n ≤ 1
-nack_at_most Nack.None = omega arith
-nack_at_most (Nack.Of t) = omega arith
+pub nack_at_most : (n : Option Term) → one_nack n ≤ 1
+nack_at_most None = omega arith
+nack_at_most (Some t) = omega arith
 
 -- a proposal is made only below P, so there is room for its term
 pub proposing : (c p : ℕ) → c ≤ max_terms → p ≤ max_terms → c + cond (ltb c p) 1 0 ≤ max_terms
@@ -239,13 +220,13 @@ proposing c p few most = go (ltb c p) refl
 
 -- ---- piggybacks
 
-pub latest_below : (c : ℕ) (new old : Piggyback) → back_below c new → back_below c old → back_below c (latest new old)
-latest_below c Piggyback.None old h k = k
-latest_below c (Piggyback.Of t d) old h k = h
+pub latest_below : (c : ℕ) (new old : Option Piggyback) → back_below c new → back_below c old → back_below c (latest new old)
+latest_below c None old h k = k
+latest_below c (Some again) old h k = h
 
-pub one_at_most : (p : Piggyback) → one_piggyback p ≤ 1
-one_at_most Piggyback.None = omega arith
-one_at_most (Piggyback.Of t d) = omega arith
+pub one_at_most : (p : Option Piggyback) → one_piggyback p ≤ 1
+one_at_most None = omega arith
+one_at_most (Some again) = omega arith
 
 -- ---- turns
 
@@ -265,12 +246,12 @@ turns_skip packet slot part m (suc t) s l h =
 
 -- ---- what holds between turns
 
-pub cleared_sharing : {n : ℕ} {x : Carry} {b t : List ℕ} → Sharing n x b t → Sharing n (without_piggyback x) b t
+pub cleared_sharing : {n : ℕ} {x : Carry} {b : List PaxosState} {t : History} → Sharing n x b t → Sharing n (without_piggyback x) b t
 cleared_sharing s = record { few = s.few; kept = s.kept; started = s.started; recording = s.recording; back = tt }
 
 -- ---- the turns of the nodes below m, from y₀, b₀ and t₀ on
 
-pub record Turned (n : ℕ) (packet : Packet) (slot : Slot) (part : ℕ) (y₀ : Carry) (b₀ t₀ : List ℕ) (m : ℕ) (y : Carry) (b t : List ℕ) : Type 0 where
+pub record Turned (n : ℕ) (packet : Packet) (slot : Slot) (part : ℕ) (y₀ : Carry) (b₀ : List PaxosState) (t₀ : History) (m : ℕ) (y : Carry) (b : List PaxosState) (t : History) : Type 0 where
   pub most : m ≤ n
   pub counter : y.counter ≡ y₀.counter
   pub nacks : y.nacks ≡ y₀.nacks
@@ -278,13 +259,13 @@ pub record Turned (n : ℕ) (packet : Packet) (slot : Slot) (part : ℕ) (y₀ :
   pub sharing : Sharing n y b t
   pub shared : shared_of n y b t ≡ turns packet slot.0 part m (shared_of n y₀ b₀ t₀)
 
-module _ {n : ℕ} {packet : Packet} {slot : Slot} {part : ℕ} {y₀ : Carry} {b₀ t₀ : List ℕ} where
+module _ {n : ℕ} {packet : Packet} {slot : Slot} {part : ℕ} {y₀ : Carry} {b₀ : List PaxosState} {t₀ : History} where
   pub turned_none : Sharing n y₀ b₀ t₀ → Turned n packet slot part y₀ b₀ t₀ 0 y₀ b₀ t₀
   unfolding turns
   turned_none s = record { most = omega arith; counter = refl; nacks = refl; piggybacks = omega arith; sharing = s; shared = refl }
 
   -- no node from m to below j takes part
-  pub turned_skip : {m j : ℕ} {y : Carry} {b t : List ℕ} → m ≤ j → j ≤ n → ((k : ℕ) → m ≤ k → k < j → has part k ≡ false) →
+  pub turned_skip : {m j : ℕ} {y : Carry} {b : List PaxosState} {t : History} → m ≤ j → j ≤ n → ((k : ℕ) → m ≤ k → k < j → has part k ≡ false) →
       Turned n packet slot part y₀ b₀ t₀ m y b t → Turned n packet slot part y₀ b₀ t₀ j y b t
   turned_skip {m} {j} up most none u =
       record {
@@ -297,7 +278,7 @@ module _ {n : ℕ} {packet : Packet} {slot : Slot} {part : ℕ} {y₀ : Carry} {
       }
 
   -- node m takes part
-  pub turned_more : {m : ℕ} {y r : Carry} {b t b' t' : List ℕ} → m < n → has part m ≡ true → TakesTurn packet slot (record { 0 = m }) y b t r b' t' →
+  pub turned_more : {m : ℕ} {y r : Carry} {b b' : List PaxosState} {t t' : History} → m < n → has part m ≡ true → TakesTurn packet slot (record { 0 = m }) y b t r b' t' →
       Turned n packet slot part y₀ b₀ t₀ m y b t → Turned n packet slot part y₀ b₀ t₀ (m + 1) r b' t'
   turned_more {m} h e took u =
       record {
@@ -313,6 +294,6 @@ module _ {n : ℕ} {packet : Packet} {slot : Slot} {part : ℕ} {y₀ : Carry} {
       }
 
 -- the length of a node's log is the size of its set
-pub log_length : (n : ℕ) (b : List ℕ) (j : ℕ) → j < n → length (state_of (states_of n b) j).log ≡ ones (logged_set b (first_of j))
+pub log_length : (n : ℕ) (b : List PaxosState) (j : ℕ) → j < n → length (state_of (states_of n b) j).log ≡ ones (state_in b j).logged
 unfolding log_of
-log_length n b j h = ap (λ (s : State). length s.log) (state_at n b j h) ∙ length_tabulate (ones (logged_set b (first_of j))) (entry_at b (first_of j))
+log_length n b j h = ap (λ (s : State). length s.log) (state_at n b j h) ∙ length_tabulate (ones (state_in b j).logged) (entry_at (state_in b j))

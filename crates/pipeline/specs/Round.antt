@@ -1,7 +1,7 @@
 -- `prepare_round` and `process_round` over all nodes (rules 6.3 to 6.5, 6.7 and 6.8).
-use Rattle.std.specs.Prelude.{ℕ, zero, suc, ◌+◌, ◌%◌, min, Bool, true, false, cond, ◌||◌, List, [], ◌∷◌, ◌++◌, ltb, eqb, length, get_or, set}
+use Rattle.std.specs.Prelude.{ℕ, zero, suc, ◌+◌, ◌%◌, min, Bool, true, false, cond, ◌||◌, List, [], ◌∷◌, ◌++◌, ltb, eqb, length, get_or, set, Option, Some, None}
 use Rattle.network.specs.Graph.{has}
-use Rattle.phy.specs.declared.packet.Nack.{Nack}
+use Rattle.network.specs.declared.units.Term.{Term}
 use Rattle.phy.specs.declared.packet.Packet.{Packet}
 use Rattle.phy.specs.declared.packet.Piggyback.{Piggyback}
 use Rattle.protocol.specs.Paxos.{State, empty}
@@ -40,7 +40,7 @@ pub record Shared : Type 0 where
   pub counter : ℕ
   pub starts : List ℕ
   pub records : List Record
-  pub piggyback : Piggyback
+  pub piggyback : Option Piggyback
   pub nacks : ℕ
   pub piggybacks : ℕ
 
@@ -48,9 +48,9 @@ pub record Prepared : Type 0 where
   pub shared : Shared
   pub packet : Packet
 
-abbrev pub one_nack : Nack → ℕ
-one_nack Nack.None = 0
-one_nack (Nack.Of t) = 1
+abbrev pub one_nack : Option Term → ℕ
+one_nack None = 0
+one_nack (Some t) = 1
 
 -- the initiator of a round
 abbrev pub initiator_of : ℕ → ℕ → ℕ
@@ -77,13 +77,13 @@ prepare_round n proposals i slot s =
     }
 
 -- a new piggyback takes the place of the old one
-abbrev pub latest : Piggyback → Piggyback → Piggyback
-latest Piggyback.None old = old
-latest (Piggyback.Of t d) old = Piggyback.Of t d
+abbrev pub latest : Option Piggyback → Option Piggyback → Option Piggyback
+latest None old = old
+latest (Some again) old = Some again
 
-abbrev pub one_piggyback : Piggyback → ℕ
-one_piggyback Piggyback.None = 0
-one_piggyback (Piggyback.Of t d) = 1
+abbrev pub one_piggyback : Option Piggyback → ℕ
+one_piggyback None = 0
+one_piggyback (Some again) = 1
 
 -- node j's turn with the packet: what is newly committed is recorded to end at the first free slot; a node that holds the NACKed term
 -- counts one piggyback and sets the next
@@ -115,7 +115,7 @@ cleared s =
       counter = s.counter;
       starts = s.starts;
       records = s.records;
-      piggyback = Piggyback.None;
+      piggyback = None;
       nacks = s.nacks;
       piggybacks = s.piggybacks;
     }

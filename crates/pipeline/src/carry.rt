@@ -1,19 +1,19 @@
 // What the rounds of a run carry, after ctsim's sim/pipeline.rs.
+ghost use Rattle.std.specs.Prelude.{◌≡◌, List, replicate};
+ghost use Rattle.std.specs.Fn.{CalledAtMut};
+ghost use Rattle.protocol.specs.declared.state.PaxosState.{PaxosState};
+ghost use Rattle.protocol.specs.View.{no_terms};
+ghost use Rattle.pipeline.specs.View.{table_size};
+
 use super::records::Recorded;
 use config::limits::MAX_NODES;
 use phy::packet::Piggyback;
-use protocol::state::NODE_SIZE;
+use protocol::state::PaxosState;
 
 // The nodes' Paxos states stand in a table with room for few nodes, for some, or for the most.
 pub const FEW_NODES: usize = 4;
 
 pub const SOME_NODES: usize = 12;
-
-pub const FEW_STATES: usize = NODE_SIZE * FEW_NODES;
-
-pub const SOME_STATES: usize = NODE_SIZE * SOME_NODES;
-
-pub const ALL_STATES: usize = NODE_SIZE * MAX_NODES;
 
 // What the rounds carry besides the flood, the table of states and the history: how many proposals
 // were made, what is recorded, the piggyback for the next packet, and two counts.
@@ -21,7 +21,26 @@ pub const ALL_STATES: usize = NODE_SIZE * MAX_NODES;
 pub struct Carry {
     pub counter: u64,
     pub recorded: Recorded,
-    pub piggyback: Piggyback,
+    pub piggyback: Option<Piggyback>,
     pub nacks: u64,
     pub piggybacks: u64,
+}
+
+// What f answers where it is lent a table of so many nodes' states, all of them empty. A table that fits few nodes takes less
+// time to fill. Each stands in a block of its own: the largest, left outside, was filled in every call. f stays the caller's,
+// who so knows what the call left in what f borrows.
+pub fn with_states<R, F: FnMut(&mut [PaxosState]) -> R>(nodes: usize, f: &mut F) -> R
+    requires { (states : _) → states.now ≡ replicate (table_size nodes) no_terms → F.pre f.old states }
+    ensures { (left : List PaxosState) × CalledAtMut F.FnMut f.old (replicate (table_size nodes) no_terms) result f.new left }
+{
+    if nodes <= FEW_NODES {
+        let mut few = [PaxosState::EMPTY; FEW_NODES];
+        f(&mut few)
+    } else if nodes <= SOME_NODES {
+        let mut some = [PaxosState::EMPTY; SOME_NODES];
+        f(&mut some)
+    } else {
+        let mut all = [PaxosState::EMPTY; MAX_NODES];
+        f(&mut all)
+    }
 }

@@ -5,12 +5,12 @@ ghost use Rattle.pipeline.specs.Round.{one_nack, one_piggyback, latest};
 ghost use Rattle.pipeline.specs.View.{Started, Starts, MayPrepare, Prepares, MayTake, TakesTurn, MayProcess, Processes, replaced, without_piggyback};
 
 use super::carry::Carry;
-use super::records::{HISTORY_SIZE, put_start, record_all};
+use super::records::History;
 use network::graph::full_set;
+use network::members::members_of;
 use network::units::{NodeId, Slot, Term};
-use phy::packet::{Data, Nack, Packet, Piggyback};
-use protocol::state::place_of;
-use protocol::turns::{initiator_turn, participant_turn};
+use phy::packet::{Packet, Piggyback};
+use protocol::state::PaxosState;
 
 // What the rounds carry after `prepare_round`, and the packet to be flooded.
 #[derive(Clone, Copy)]
@@ -22,33 +22,30 @@ pub struct PreparedRound {
 fn one_if(yes: bool) -> u64
     ensures { result ≡ cond yes 1 0 }
 {
-    if yes { 1 } else { 0 }
+    u64::from(yes)
 }
 
-fn one_nack(nack: Nack) -> u64
+fn one_nack(nack: Option<Term>) -> u64
     ensures { result ≡ one_nack nack }
 {
-    match nack {
-        Nack::None => 0,
-        Nack::Of(_) => 1,
-    }
+    u64::from(nack.is_some())
 }
 
 // Where a proposal is made now, its slot is kept.
-fn keep_start(history: &mut [u64; HISTORY_SIZE], counter: u64, proposes: bool, slot: Slot)
+fn keep_start(history: &mut History, counter: u64, proposes: bool, slot: Slot)
     requires { Started counter history.old × (counter + cond proposes 1 0 ≤ max_terms) }
     ensures { Starts counter proposes slot.0 history.old history.new }
 {
     if proposes {
-        put_start(history, Term(counter), slot);
+        history.starts[counter as usize] = slot;
     }
 }
 
 // `prepare_round`: the initiator's turn, the record of what it newly commits, and its packet.
 pub fn prepare_round(
     x: Carry,
-    states: &mut [u64],
-    history: &mut [u64; HISTORY_SIZE],
+    states: &mut [PaxosState],
+    history: &mut History,
     n: usize,
     proposals: u64,
     initiator: NodeId,
@@ -57,16 +54,15 @@ pub fn prepare_round(
     requires { MayPrepare n proposals initiator x states.old history.old }
     ensures { Prepares n proposals initiator slot x states.old history.old result states.new history.new }
 {
-    let at = place_of(initiator);
     let counter = x.counter;
     let proposes = counter < proposals;
     let back = x.piggyback;
-    let turn = initiator_turn(states, at, initiator, n, counter, proposes, back);
+    let turn = states[initiator.0].initiator_turn(initiator, n, counter, proposes, back);
     let packet = turn.packet;
     let nack = packet.nack_term;
     keep_start(history, counter, proposes, slot);
     let before = x.recorded;
-    let recorded = record_all(history, before, turn.newly, slot);
+    let recorded = history.record_all(before, turn.newly, slot);
     PreparedRound {
         carry: Carry {
             counter: counter + one_if(proposes),
@@ -79,41 +75,39 @@ pub fn prepare_round(
     }
 }
 
-fn one_piggyback(recovery: Piggyback) -> u64
+fn one_piggyback(recovery: Option<Piggyback>) -> u64
     ensures { result ≡ one_piggyback recovery }
 {
-    match recovery {
-        Piggyback::None => 0,
-        Piggyback::Of(_, _) => 1,
-    }
+    u64::from(recovery.is_some())
 }
 
 // The same piggyback, made anew. A copy would take its unused bytes along, in pieces that overlap, and the next turn's copy
 // would wait for them.
-fn made_anew(p: Piggyback) -> Piggyback
+fn made_anew(p: Option<Piggyback>) -> Option<Piggyback>
     ensures { result ≡ p }
 {
-    let Piggyback::Of(t, d) = p else {
-        return Piggyback::None;
+    let again = p?;
+    let Some(t) = again.data else {
+        return Some(Piggyback {
+            term: again.term,
+            data: None,
+        });
     };
-    let Data::Of(u) = d else {
-        return Piggyback::Of(t, Data::Empty);
-    };
-    Piggyback::Of(t, Data::Of(u))
+    Some(Piggyback {
+        term: again.term,
+        data: Some(t),
+    })
 }
 
 // A turn's piggyback, if there is one, else that before it.
-fn latest(recovery: Piggyback, before: Piggyback) -> Piggyback
+fn latest(recovery: Option<Piggyback>, before: Option<Piggyback>) -> Option<Piggyback>
     ensures { result ≡ latest recovery before }
 {
-    match recovery {
-        Piggyback::None => made_anew(before),
-        Piggyback::Of(t, d) => made_anew(Piggyback::Of(t, d)),
-    }
+    made_anew(recovery.or(before))
 }
 
 // A turn's piggyback, if there is one, in the place of that before it, and counted.
-fn recovered(y: Carry, recovery: Piggyback) -> Carry
+fn recovered(y: Carry, recovery: Option<Piggyback>) -> Carry
     requires { y.piggybacks < count_bound }
     ensures { result ≡ replaced recovery y }
 {
@@ -132,8 +126,8 @@ fn recovered(y: Carry, recovery: Piggyback) -> Carry
 // A participant's turn, and the record of what it newly commits.
 fn take_turn(
     x: Carry,
-    states: &mut [u64],
-    history: &mut [u64; HISTORY_SIZE],
+    states: &mut [PaxosState],
+    history: &mut History,
     packet: Packet,
     node: NodeId,
     slot: Slot,
@@ -141,10 +135,9 @@ fn take_turn(
     requires { MayTake packet node x states.old history.old }
     ensures { TakesTurn packet slot node x states.old history.old result states.new history.new }
 {
-    let at = place_of(node);
-    let turn = participant_turn(states, at, node, packet);
+    let turn = states[node.0].participant_turn(node, packet);
     let before = x.recorded;
-    let recorded = record_all(history, before, turn.newly, slot);
+    let recorded = history.record_all(before, turn.newly, slot);
     let recovery = turn.recovery;
     let mut y = x;
     y.recorded = recorded;
@@ -156,11 +149,10 @@ fn cleared(x: Carry) -> Carry
     ensures { result ≡ without_piggyback x }
 {
     let recorded = x.recorded;
-    let none = Piggyback::None;
     Carry {
         counter: x.counter,
         recorded,
-        piggyback: none,
+        piggyback: None,
         nacks: x.nacks,
         piggybacks: x.piggybacks,
     }
@@ -169,8 +161,8 @@ fn cleared(x: Carry) -> Carry
 // `process_round`: the turns of the nodes that took part, ascending.
 pub fn process_round(
     x: Carry,
-    states: &mut [u64],
-    history: &mut [u64; HISTORY_SIZE],
+    states: &mut [PaxosState],
+    history: &mut History,
     n: usize,
     packet: Packet,
     slot: Slot,
@@ -180,11 +172,9 @@ pub fn process_round(
     ensures { Processes n packet slot part x states.old history.old result states.new history.new }
 {
     let mut y = cleared(x);
-    let mut rest = part & full_set(n);
-    while rest != 0 {
-        let j = u64::trailing_zeros(rest) as usize;
+    let took = part & full_set(n);
+    for j in members_of(took) {
         y = take_turn(y, states, history, packet, NodeId(j), slot);
-        rest = rest & (rest - 1);
     }
     y
 }

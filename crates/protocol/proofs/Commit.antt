@@ -1,8 +1,8 @@
 -- Laws of commits and of the searches: a term at a time, and what is newly committed. Assumes nothing.
+use Rattle.std.specs.Prelude.{Option, Some, None}
 use Prim.Native.Nat.{ℕ, zero, suc, ◌+◌, ◌-◌, ◌/◌, ◌%◌, ◌^◌, ◌<◌, ◌≤◌}
 use mathlib.Core.Bool.{Bool, true, false, cond, ◌||◌, or-false}
 use mathlib.Core.List.{List, [], ◌∷◌, ◌++◌, append-nil}
-use mathlib.Core.Option.{Option, none, some}
 use mathlib.Core.Path.{◌≡◌, refl, sym, ap, ◌∙◌}
 use mathlib.Core.Logic.{◌⊎◌, inl, inr}
 use native.Mathlib.Nat.{pow-suc, lt_of_lt_of_le}
@@ -11,8 +11,6 @@ use native.Mathlib.Omega.{arith}
 use borrow.Author.Tests.{eqb-true, eqb-false, ne_eqb, lt-ltb, le-ltb, ltb-true, ltb-false}
 use lib.Dec.{eqb, ltb}
 use lib.Pow.{pow_mono}
-use Rattle.phy.specs.declared.packet.LastAccepted.{LastAccepted}
-use Rattle.protocol.specs.declared.paxos.Gap.{Gap}
 use Rattle.protocol.specs.Paxos.{LogEntry, Pending, State, logged, held, updated, log_entry, raise, quorum, greatest_quorum, commit_term, commit_below, newly_below, term_set, after_last, gap_in, detect_gap}
 use Rattle.protocol.proofs.Places.{either}
 use Rattle.protocol.proofs.Sets.{add_high, low_bit, own_bit}
@@ -53,15 +51,15 @@ newly_lt (suc k) l = go (newly_lt k l) (logged k l)
 
 pub one_logged : (j t : ℕ) (p : Option Pending) → eqb j t ≡ false → logged j (log_entry t p) ≡ false
 unfolding logged
-one_logged j t none e = refl
-one_logged j t (some p) e = rw e
+one_logged j t None e = refl
+one_logged j t (Some p) e = rw e
 
 -- a commit of t changes nothing of what is logged but t
 pub term_other : (j t : ℕ) (x : State) → eqb j t ≡ false → logged j (commit_term t x).log ≡ logged j x.log
 unfolding commit_term
 term_other j t x e = go (logged t x.log)
   where
-    go : (b : Bool) → logged j (cond b x (record { log = x.log ++ log_entry t (x.pending t); pending = updated t none x.pending; last = raise t x.last })).log ≡ logged j x.log
+    go : (b : Bool) → logged j (cond b x (record { log = x.log ++ log_entry t (x.pending t); pending = updated t None x.pending; last = raise t x.last })).log ≡ logged j x.log
     go true = refl
     go false = logged_append j x.log (log_entry t (x.pending t)) ∙ ap (λ (b : Bool). logged j x.log || b) (one_logged j t (x.pending t) e) ∙ or-false (logged j x.log)
 
@@ -130,43 +128,43 @@ newly_bit (suc k) t l = go (newly_bit k t l) (either (ltb t k)) (either (eqb t k
 
 -- ---- what the searches find
 
-pub greatest_none : (k n : ℕ) (x : State) → ((t : ℕ) → t < k → quorum n (x.pending t) ≡ false) → greatest_quorum k n x ≡ LastAccepted.None
+pub greatest_none : (k n : ℕ) (x : State) → ((t : ℕ) → t < k → quorum n (x.pending t) ≡ false) → greatest_quorum k n x ≡ None
 unfolding greatest_quorum
 greatest_none zero n x h = refl
 greatest_none (suc k) n x h = rw (h k (omega arith)) (greatest_none k n x (λ t g. h t (omega arith)))
 
 -- t has a quorum, and no greater term has one
 pub greatest_is : (k n t : ℕ) (x : State) → t < k → quorum n (x.pending t) ≡ true →
-    ((u : ℕ) → t < u → u < k → quorum n (x.pending u) ≡ false) → greatest_quorum k n x ≡ LastAccepted.At (record { 0 = t })
+    ((u : ℕ) → t < u → u < k → quorum n (x.pending u) ≡ false) → greatest_quorum k n x ≡ Some (record { 0 = t })
 unfolding greatest_quorum
 greatest_is zero n t x h q g = absurd (omega arith)
 greatest_is (suc k) n t x h q g = go (greatest_is k n t x) (either (eqb t k))
   where
-    go : (t < k → quorum n (x.pending t) ≡ true → ((u : ℕ) → t < u → u < k → quorum n (x.pending u) ≡ false) → greatest_quorum k n x ≡ LastAccepted.At (record { 0 = t })) →
+    go : (t < k → quorum n (x.pending t) ≡ true → ((u : ℕ) → t < u → u < k → quorum n (x.pending u) ≡ false) → greatest_quorum k n x ≡ Some (record { 0 = t })) →
         (eqb t k ≡ true) ⊎ (eqb t k ≡ false) →
-        cond (quorum n (x.pending k)) (LastAccepted.At (record { 0 = k })) (greatest_quorum k n x) ≡ LastAccepted.At (record { 0 = t })
+        cond (quorum n (x.pending k)) (Some (record { 0 = k })) (greatest_quorum k n x) ≡ Some (record { 0 = t })
     go ih (inl e) = rw (← eqb-true t k e, q)
     go ih (inr e) =
         let lt : t < k = omega (arith, eqb-false t k e) in
         rw (g k lt (omega arith)) (ih lt q (λ u a b. g u a (omega arith)))
 
-gap_in_none : (k t : ℕ) (x : State) → ((u : ℕ) → t ≤ u → u < t + k → held u x ≡ true) → gap_in k t x ≡ Gap.None
+gap_in_none : (k t : ℕ) (x : State) → ((u : ℕ) → t ≤ u → u < t + k → held u x ≡ true) → gap_in k t x ≡ None
 unfolding gap_in
 gap_in_none zero t x h = refl
 gap_in_none (suc k) t x h = rw (h t (omega arith) (omega arith)) (gap_in_none k (suc t) x (λ u a b. h u (omega arith) (omega arith)))
 
 -- there is no gap where each term after last accepted is held
-pub gap_none : (c : ℕ) (x : State) → ((t : ℕ) → after_last x.last ≤ t → t < c → held t x ≡ true) → detect_gap c x ≡ Gap.None
+pub gap_none : (c : ℕ) (x : State) → ((t : ℕ) → after_last x.last ≤ t → t < c → held t x ≡ true) → detect_gap c x ≡ None
 unfolding detect_gap
 gap_none c x h = gap_in_none (c - after_last x.last) (after_last x.last) x (λ u a b. h u a (omega arith))
 
-gap_in_is : (k t g : ℕ) (x : State) → t ≤ g → g < t + k → held g x ≡ false → ((u : ℕ) → t ≤ u → u < g → held u x ≡ true) → gap_in k t x ≡ Gap.At (record { 0 = g })
+gap_in_is : (k t g : ℕ) (x : State) → t ≤ g → g < t + k → held g x ≡ false → ((u : ℕ) → t ≤ u → u < g → held u x ≡ true) → gap_in k t x ≡ Some (record { 0 = g })
 unfolding gap_in
 gap_in_is zero t g x l b e h = absurd (omega arith)
 gap_in_is (suc k) t g x l b e h = go (gap_in_is k (suc t) g x) (either (eqb t g))
   where
-    go : (suc t ≤ g → g < suc t + k → held g x ≡ false → ((u : ℕ) → suc t ≤ u → u < g → held u x ≡ true) → gap_in k (suc t) x ≡ Gap.At (record { 0 = g })) →
-        (eqb t g ≡ true) ⊎ (eqb t g ≡ false) → cond (held t x) (gap_in k (suc t) x) (Gap.At (record { 0 = t })) ≡ Gap.At (record { 0 = g })
+    go : (suc t ≤ g → g < suc t + k → held g x ≡ false → ((u : ℕ) → suc t ≤ u → u < g → held u x ≡ true) → gap_in k (suc t) x ≡ Some (record { 0 = g })) →
+        (eqb t g ≡ true) ⊎ (eqb t g ≡ false) → cond (held t x) (gap_in k (suc t) x) (Some (record { 0 = t })) ≡ Some (record { 0 = g })
     go ih (inl q) = rw (eqb-true t g q, e)
     go ih (inr q) =
         let lt : t < g = omega (arith, eqb-false t g q) in
@@ -174,6 +172,6 @@ gap_in_is (suc k) t g x l b e h = go (gap_in_is k (suc t) g x) (either (eqb t g)
 
 -- g is not held, and each term before it after last accepted is
 pub gap_is : (c g : ℕ) (x : State) → after_last x.last ≤ g → g < c → held g x ≡ false → ((t : ℕ) → after_last x.last ≤ t → t < g → held t x ≡ true) →
-    detect_gap c x ≡ Gap.At (record { 0 = g })
+    detect_gap c x ≡ Some (record { 0 = g })
 unfolding detect_gap
 gap_is c g x l b e h = gap_in_is (c - after_last x.last) (after_last x.last) g x l (omega arith) e h

@@ -1,31 +1,31 @@
 -- A commit lets logs and last accepted only grow. Assumes nothing.
+use Rattle.std.specs.Prelude.{Option, Some, None}
 use Prim.Native.Nat.{ℕ}
 use mathlib.Core.Bool.{Bool, true, false, cond, ◌||◌}
 use mathlib.Core.List.{List, [], ◌++◌, append-nil, append_assoc}
-use mathlib.Core.Option.{none}
 use mathlib.Core.Path.{◌≡◌, refl, sym, ap, ◌∙◌}
 use native.Mathlib.Nat.{le_trans, le_refl}
 use native.Mathlib.Omega.{arith}
-use Rattle.phy.specs.declared.packet.LastAccepted.{LastAccepted}
+use Rattle.network.specs.declared.units.Term.{Term}
 use Rattle.protocol.specs.Paxos.{LogEntry, State, logged, updated, log_entry, raise, commit_term}
 use Rattle.protocol.specs.Growth.{Extends, Continues, Rises}
 use Rattle.protocol.proofs.Logs.{logged_append}
 
 -- ---- last accepted rises
 
-pub rises_refl : (l : LastAccepted) → Rises l l
-rises_refl LastAccepted.None = tt
-rises_refl (LastAccepted.At u) = le_refl u.0
+pub rises_refl : (l : Option Term) → Rises l l
+rises_refl None = tt
+rises_refl (Some u) = le_refl u.0
 
-pub rises_trans : (a b c : LastAccepted) → Rises a b → Rises b c → Rises a c
-rises_trans LastAccepted.None b c h g = tt
-rises_trans (LastAccepted.At u) LastAccepted.None c h g = absurd h
-rises_trans (LastAccepted.At u) (LastAccepted.At v) LastAccepted.None h g = absurd g
-rises_trans (LastAccepted.At u) (LastAccepted.At v) (LastAccepted.At w) h g = le_trans h g
+pub rises_trans : (a b c : Option Term) → Rises a b → Rises b c → Rises a c
+rises_trans None b c h g = tt
+rises_trans (Some u) None c h g = absurd h
+rises_trans (Some u) (Some v) None h g = absurd g
+rises_trans (Some u) (Some v) (Some w) h g = le_trans h g
 
-pub rises_raise : (t : ℕ) (l : LastAccepted) → Rises l (raise t l)
-rises_raise t LastAccepted.None = tt
-rises_raise t (LastAccepted.At u) = omega arith
+pub rises_raise : (t : ℕ) (l : Option Term) → Rises l (raise t l)
+rises_raise t None = tt
+rises_raise t (Some u) = omega arith
 
 -- ---- a log only grows
 
@@ -47,12 +47,12 @@ extends_logged t l m p e = ap (logged t) p.1 ∙ logged_append t l p.0 ∙ ap (�
 -- by whether t is logged
 pub by_log : (P : State → Type 0) (t : ℕ) (s : State) →
     (logged t s.log ≡ true → P s) →
-    (logged t s.log ≡ false → P (record { log = s.log ++ log_entry t (s.pending t); pending = updated t none s.pending; last = raise t s.last })) →
+    (logged t s.log ≡ false → P (record { log = s.log ++ log_entry t (s.pending t); pending = updated t None s.pending; last = raise t s.last })) →
     P (commit_term t s)
 unfolding commit_term
 by_log P t s f g = go (logged t s.log) refl
   where
-    go : (b : Bool) → logged t s.log ≡ b → P (cond b s (record { log = s.log ++ log_entry t (s.pending t); pending = updated t none s.pending; last = raise t s.last }))
+    go : (b : Bool) → logged t s.log ≡ b → P (cond b s (record { log = s.log ++ log_entry t (s.pending t); pending = updated t None s.pending; last = raise t s.last }))
     go true e = f e
     go false e = g e
 

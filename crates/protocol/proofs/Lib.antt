@@ -3,8 +3,7 @@
 --     Places     a list after a store, by place; tests on numbers
 --     Logs       what is logged, by entries
 --     Words      sets of terms in a word
---     Frame      a node's numbers among those of a slice: stores, what depends on them alone, and the first state
---     Kept       each step on a node's numbers: the state that it gives, and what it keeps
+--     Kept       what a kept state says, the first state, and each step on the struct
 --     Commit     laws of commits and of the searches
 --     Growing    a commit lets logs and last accepted only grow
 --     Steps      each function as its definition has it
@@ -17,7 +16,6 @@ pub mod Sets
 pub mod Places
 pub mod Logs
 pub mod Words
-pub mod Frame
 pub mod Kept
 pub mod Commit
 pub mod Growing

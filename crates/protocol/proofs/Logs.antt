@@ -1,14 +1,14 @@
 -- What is logged, by entries. Assumes nothing.
+use Rattle.std.specs.Prelude.{Option, Some, None}
 use Prim.Native.Nat.{ℕ, zero, suc, ◌<◌}
 use mathlib.Core.Bool.{Bool, true, false, cond, ◌||◌, or-true}
 use mathlib.Core.List.{List, [], ◌∷◌, ◌++◌}
-use mathlib.Core.Option.{Option, none, some}
 use mathlib.Core.Path.{◌≡◌, refl, sym, ap, ap₂, ◌∙◌, subst}
 use native.Mathlib.Omega.{arith}
 use borrow.Author.Tests.{eq-eqb}
 use lib.Dec.{eqb}
 use Rattle.random.specs.Table.{tabulate}
-use Rattle.phy.specs.declared.packet.Data.{Data}
+use Rattle.network.specs.declared.units.Term.{Term}
 use Rattle.protocol.specs.Paxos.{LogEntry, logged, find}
 use Rattle.protocol.specs.View.{Distinct}
 use Rattle.protocol.proofs.Places.{eqb_sym, same_or}
@@ -49,14 +49,14 @@ logged_each (suc n) f (suc k) h =
     or-true (eqb (f (suc k)).term (f zero).term)
 
 -- where a term's data are those of the term, a logged term is found with them
-pub find_by_term : (d : ℕ → Data) (t n : ℕ) (f : ℕ → LogEntry) → ((k : ℕ) → (f k).«data» ≡ d (f k).term) →
-    find t (tabulate n f) ≡ cond (logged t (tabulate n f)) (some (d t)) none
+pub find_by_term : (d : ℕ → Option Term) (t n : ℕ) (f : ℕ → LogEntry) → ((k : ℕ) → (f k).«data» ≡ d (f k).term) →
+    find t (tabulate n f) ≡ cond (logged t (tabulate n f)) (Some (d t)) None
 unfolding logged find tabulate
 find_by_term d t zero f h = refl
 find_by_term d t (suc n) f h =
     same_or
-    (λ (b : Bool). cond b (some (f zero).«data») (find t (tabulate n (λ (i : ℕ). f (suc i)))) ≡
-    cond (b || logged t (tabulate n (λ (i : ℕ). f (suc i)))) (some (d t)) none)
+    (λ (b : Bool). cond b (Some (f zero).«data») (find t (tabulate n (λ (i : ℕ). f (suc i)))) ≡
+    cond (b || logged t (tabulate n (λ (i : ℕ). f (suc i)))) (Some (d t)) None)
     t (f zero).term
-    (λ q. ap {B = Option Data} some (h zero ∙ ap d (sym q)))
+    (λ q. ap {B = Option (Option Term)} Some (h zero ∙ ap d (sym q)))
     (λ _. find_by_term d t n (λ (i : ℕ). f (suc i)) (λ k. h (suc k)))

@@ -1,8 +1,8 @@
 -- The values of rule 14.2 that are of this crate, computed from the definitions. Assumes nothing.
+use Rattle.std.specs.Prelude.{Some}
 use Prim.Native.Nat.{ℕ}
 use mathlib.Core.List.{List, [], ◌∷◌, map}
 use mathlib.Core.Path.{◌≡◌, refl}
-use Rattle.protocol.specs.declared.paxos.Gap.{Gap}
 use Rattle.protocol.specs.Paxos.{LogEntry, State, empty, majority, logged, hold, commit_term, commit_below, commit_up_to, newly_below, newly_up_to, gap_in, detect_gap}
 use Rattle.protocol.specs.Growth.{data_for}
 
@@ -20,7 +20,7 @@ pub record Starred : Type 0 where
   pub majority_32 : majority 32 ≡ 17
   pub log : log_terms (commit_up_to 3 pending_two).log ≡ 1 ∷ 3 ∷ []
   pub newly : newly_up_to 3 pending_two.log ≡ 0 ∷ 1 ∷ 2 ∷ 3 ∷ []
-  pub gap : detect_gap 5 (commit_up_to 3 pending_two) ≡ Gap.At (record { 0 = 4 })
+  pub gap : detect_gap 5 (commit_up_to 3 pending_two) ≡ Some (record { 0 = 4 })
 
 pub starred : Starred
 unfolding hold logged commit_term commit_below newly_below gap_in detect_gap

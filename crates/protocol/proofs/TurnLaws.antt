@@ -1,9 +1,9 @@
 -- The laws of the two turns, by name. For the initiator, the term of the counter is not held before its turn
 -- (`counter_free` says so of a state that is kept). Assumes nothing.
+use Rattle.std.specs.Prelude.{Option, Some, None}
 use Prim.Native.Nat.{ℕ, zero, suc, ◌^◌, ◌<◌}
 use mathlib.Core.Bool.{Bool, true, false, cond}
 use mathlib.Core.List.{List, [], ◌∷◌, map}
-use mathlib.Core.Option.{Option, none, some}
 use mathlib.Core.Path.{◌≡◌, refl, sym, ap, ◌∙◌}
 use native.Mathlib.Nat.{le_refl}
 use native.Mathlib.Omega.{arith}
@@ -14,70 +14,68 @@ use lib.Pow.{pow-lt}
 use Rattle.network.specs.Graph.{has}
 use Rattle.random.specs.Table.{tabulate}
 use Rattle.random.proofs.Tables.{length_tabulate}
-use Rattle.phy.specs.declared.packet.Data.{Data}
-use Rattle.phy.specs.declared.packet.Nack.{Nack}
+use Rattle.network.specs.declared.units.Term.{Term}
 use Rattle.phy.specs.declared.packet.Piggyback.{Piggyback}
 use Rattle.phy.specs.declared.packet.Packet.{Packet}
+use Rattle.protocol.specs.declared.state.PaxosState.{PaxosState}
 use Rattle.protocol.specs.Paxos.{LogEntry, Pending, State, logged, held, find, data_in, reply, recovery}
 use Rattle.protocol.specs.Turns.{current_term_of, proposal_data_of, announce, initiator_turn, take_votes, participant_turn}
-use Rattle.protocol.specs.View.{logged_set, term_at, entry_at, log_of, view, Kept}
+use Rattle.protocol.specs.View.{term_at, entry_at, log_of, view, Kept}
 use Rattle.protocol.specs.Growth.{Extends, Rises, StaysPending, Apart, data_for, own_pending, own_log, Own, own_data, own_back, OwnPacket}
 use Rattle.protocol.proofs.Places.{same_or}
 use Rattle.protocol.proofs.Words.{in_word, ones_with}
-use Rattle.protocol.proofs.Frame.{logged_word}
-use Rattle.protocol.proofs.Kept.{pending_none}
-use Rattle.protocol.proofs.Steps.{held_free}
+use Rattle.protocol.proofs.Kept.{logged_word, pending_none, held_free}
 use Rattle.protocol.proofs.Growing.{extends_refl, rises_refl}
 use Rattle.protocol.proofs.Laws.{Keeps, AskData, AskBack, AnyData, AnyVotes, OwnD, participant_keeps, votes_keeps, initiator_keeps, log_extends, last_rises, votes_stand, kept_apart, kept_own}
 
 -- ---- what a kept state says
 
-pub counter_free : {c : ℕ} {b : List ℕ} {at : ℕ} → Kept c b at → held c (view b at) ≡ false
-counter_free {c} k = held_free c k (le_refl c)
+pub counter_free : {c : ℕ} {s : PaxosState} → Kept c s → held c (view s) ≡ false
+counter_free {c} k = held_free k c (le_refl c)
 
-pub view_apart : {c : ℕ} {b : List ℕ} {at : ℕ} → Kept c b at → Apart (view b at)
-view_apart {c} {b} {at} k =
+pub view_apart : {c : ℕ} {s : PaxosState} → Kept c s → Apart (view s)
+view_apart {c} {s} k =
     record {
       distinct = k.distinct;
-      apart = λ t h. pending_none b at t (k.apart t (sym (k.logged_is t) ∙ h));
+      apart = λ t h. pending_none s t (k.apart t (sym (k.logged_is t) ∙ h));
     }
 
 -- the terms of the log stand in its places
-pub log_terms_lem : (b : List ℕ) (at : ℕ) → map (λ e. e.term) (view b at).log ≡ tabulate (ones (logged_set b at)) (term_at b at)
+pub log_terms_lem : (s : PaxosState) → map (λ e. e.term) (view s).log ≡ tabulate (ones s.logged) (term_at s)
 unfolding log_of tabulate
-log_terms_lem b at = go (ones (logged_set b at)) (entry_at b at)
+log_terms_lem s = go (ones s.logged) (entry_at s)
   where
     go : (n : ℕ) (f : ℕ → LogEntry) → map (λ e. e.term) (tabulate n f) ≡ tabulate n (λ (k : ℕ). (f k).term)
     go zero f = refl
     go (suc n) f = ap (λ (m : List ℕ). (f zero).term ∷ m) (go n (λ (k : ℕ). f (suc k)))
 
-pub log_count : (b : List ℕ) (at : ℕ) → length (view b at).log ≡ ones (logged_set b at)
+pub log_count : (s : PaxosState) → length (view s).log ≡ ones s.logged
 unfolding log_of
-log_count b at = length_tabulate (ones (logged_set b at)) (entry_at b at)
+log_count s = length_tabulate (ones s.logged) (entry_at s)
 
 -- a log as long as the counter holds every term below it
-pub log_full : {c : ℕ} {b : List ℕ} {at : ℕ} → Kept c b at → ones (logged_set b at) ≡ c → (t : ℕ) → t < c → logged t (view b at).log ≡ true
-log_full {c} {b} {at} k e t h = k.logged_is t ∙ go (has (logged_set b at) t) refl
+pub log_full : {c : ℕ} {s : PaxosState} → Kept c s → ones s.logged ≡ c → (t : ℕ) → t < c → logged t (view s).log ≡ true
+log_full {c} {s} k e t h = k.logged_is t ∙ go (has s.logged t) refl
   where
-    go : (x : Bool) → has (logged_set b at) t ≡ x → x ≡ true
+    go : (x : Bool) → has s.logged t ≡ x → x ≡ true
     go true q = refl
     go false q =
         absurd
         (omega (
           arith,
-          ones_with (logged_set b at) t (logged_word k) (omega (arith, k.room)) q,
-          ones-le c (bit_or (logged_set b at) (2 ^ t)) (or_lt c (logged_set b at) (2 ^ t) (in_word c (logged_set b at) k.logged_below) (pow-lt h)),
+          ones_with s.logged t (logged_word k) (omega (arith, k.room)) q,
+          ones-le c (bit_or s.logged (2 ^ t)) (or_lt c s.logged (2 ^ t) (in_word c s.logged k.logged_below) (pow-lt h)),
         ))
 
 -- ---- a participant's turn
 
-pub any_data : (t : ℕ) (d : Data) → AskData AnyData t d
-any_data t Data.Empty = tt
-any_data t (Data.Of u) = tt
+pub any_data : (t : ℕ) (d : Option Term) → AskData AnyData t d
+any_data t None = tt
+any_data t (Some u) = tt
 
-pub any_back : (pb : Piggyback) → AskBack AnyData pb
-any_back Piggyback.None = tt
-any_back (Piggyback.Of t d) = tt
+pub any_back : (pb : Option Piggyback) → AskBack AnyData pb
+any_back None = tt
+any_back (Some again) = tt
 
 module _ (i : ℕ) (p : Packet) (s : State) where
   kept : (Q : State → Type 0) → Keeps AnyData AnyVotes Q → Q s → Q (participant_turn i p s).state
@@ -98,7 +96,7 @@ module _ (i : ℕ) (p : Packet) (s : State) where
 
 -- ---- the initiator's turn
 
-module _ (i n c : ℕ) (b : Bool) (pb : Piggyback) (s : State) (free : held c s ≡ false) where
+module _ (i n c : ℕ) (b : Bool) (pb : Option Piggyback) (s : State) (free : held c s ≡ false) where
   made : (Q : State → Type 0) → Keeps AnyData AnyVotes Q → Q s → Q (initiator_turn i n c b pb s).state
   made Q k q = initiator_keeps AnyData AnyVotes Q k i tt n c b pb s free (λ _. tt) q
 
@@ -119,40 +117,40 @@ module _ (i n c : ℕ) (b : Bool) (pb : Piggyback) (s : State) (free : held c s 
 
 -- ---- own data in packets
 
-ask_data : (t : ℕ) (d : Data) → own_data t d → AskData OwnD t d
-ask_data t Data.Empty h = tt
-ask_data t (Data.Of u) h = ap data_for h
+ask_data : (t : ℕ) (d : Option Term) → own_data t d → AskData OwnD t d
+ask_data t None h = tt
+ask_data t (Some u) h = ap data_for h
 
-ask_back : (pb : Piggyback) → own_back pb → AskBack OwnD pb
-ask_back Piggyback.None h = tt
-ask_back (Piggyback.Of t d) h = h
+ask_back : (pb : Option Piggyback) → own_back pb → AskBack OwnD pb
+ask_back None h = tt
+ask_back (Some again) h = h
 
 pub participant_own : (i : ℕ) (p : Packet) (s : State) → OwnPacket p → Own s → Own (participant_turn i p s).state
 participant_own i p s o h =
     participant_keeps OwnD AnyVotes Own kept_own i tt p s tt (ask_data p.current_term.0 p.proposal_data o.proposal)
     (ask_back p.piggyback o.back) h
 
-own_found : ℕ → Option Data → Type 0
-own_found t none = Unit {0}
-own_found t (some d) = d ≡ data_for t
+own_found : ℕ → Option (Option Term) → Type 0
+own_found t None = Unit {0}
+own_found t (Some d) = d ≡ data_for t
 
 find_own : (t : ℕ) (l : List LogEntry) → own_log l → own_found t (find t l)
 unfolding find own_log own_found
 find_own t [] h = tt
 find_own t (e ∷ l) h =
-    same_or (λ (b : Bool). own_found t (cond b (some e.«data») (find t l))) t e.term
+    same_or (λ (b : Bool). own_found t (cond b (Some e.«data») (find t l))) t e.term
     (λ q. h.0 ∙ ap data_for (sym q)) (λ q. find_own t l h.1)
 
-reply_own : (t : ℕ) (o : Option Data) (q : Option Pending) → own_found t o → own_pending t q → own_back (reply t (data_in o q))
+reply_own : (t : ℕ) (o : Option (Option Term)) (q : Option Pending) → own_found t o → own_pending t q → own_back (reply t (data_in o q))
 unfolding own_found
-reply_own t (some d) q h g = h
-reply_own t none none h g = tt
-reply_own t none (some p) h g = g
+reply_own t (Some d) q h g = h
+reply_own t None None h g = tt
+reply_own t None (Some p) h g = g
 
-recovery_own : (n : Nack) (s : State) → Own s → own_back (recovery n s)
+recovery_own : (n : Option Term) (s : State) → Own s → own_back (recovery n s)
 unfolding recovery
-recovery_own Nack.None s h = tt
-recovery_own (Nack.Of t) s h =
+recovery_own None s h = tt
+recovery_own (Some t) s h =
     reply_own t.0 (find t.0 s.log) (s.pending t.0) (find_own t.0 s.log h.log) (h.pending t.0)
 
 pub participant_recovered : (i : ℕ) (p : Packet) (s : State) → OwnPacket p → Own s → own_back (participant_turn i p s).recovered
@@ -165,6 +163,6 @@ own_proposal : (b : Bool) (c : ℕ) → own_data (current_term_of b c) (proposal
 own_proposal true c = refl
 own_proposal false c = tt
 
-pub initiator_packet : (i n c : ℕ) (b : Bool) (pb : Piggyback) (s : State) → own_back pb → OwnPacket (initiator_turn i n c b pb s).packet
+pub initiator_packet : (i n c : ℕ) (b : Bool) (pb : Option Piggyback) (s : State) → own_back pb → OwnPacket (initiator_turn i n c b pb s).packet
 unfolding initiator_turn announce
 initiator_packet i n c b pb s h = record { proposal = own_proposal b c; back = h }

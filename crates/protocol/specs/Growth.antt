@@ -1,9 +1,7 @@
 -- How a state changes in a turn, and what it means that terms carry their own data.
-use Rattle.std.specs.Prelude.{ℕ, ◌/◌, ◌%◌, ◌^◌, ◌<◌, ◌≤◌, true, List, [], ◌∷◌, ◌++◌, ◌⊎◌, ◌≡◌}
-use Rattle.std.proofs.Math.Option.{Option, none, some}
+use Rattle.std.specs.Prelude.{ℕ, ◌/◌, ◌%◌, ◌^◌, ◌<◌, ◌≤◌, true, List, [], ◌∷◌, ◌++◌, ◌⊎◌, ◌≡◌, Option, Some, None}
 use Rattle.config.specs.Limits.{set_bits}
-use Rattle.phy.specs.declared.packet.Data.{Data}
-use Rattle.phy.specs.declared.packet.LastAccepted.{LastAccepted}
+use Rattle.network.specs.declared.units.Term.{Term}
 use Rattle.phy.specs.declared.packet.Piggyback.{Piggyback}
 use Rattle.phy.specs.declared.packet.Packet.{Packet}
 use Rattle.protocol.specs.Paxos.{LogEntry, Pending, State, logged}
@@ -18,10 +16,10 @@ abbrev pub Continues : {A : Type 0} → List A → List A → Type 0
 Continues {A} l m = (d : List A) × (m ≡ l ++ d)
 
 -- last accepted doesn't fall
-abbrev pub Rises : LastAccepted → LastAccepted → Type 0
-Rises LastAccepted.None l = Unit {0}
-Rises (LastAccepted.At u) LastAccepted.None = ⊥
-Rises (LastAccepted.At u) (LastAccepted.At v) = u.0 ≤ v.0
+abbrev pub Rises : Option Term → Option Term → Type 0
+Rises None l = Unit {0}
+Rises (Some u) None = ⊥
+Rises (Some u) (Some v) = u.0 ≤ v.0
 
 -- each node that is in a is in b
 abbrev pub Subset : ℕ → ℕ → Type 0
@@ -30,23 +28,23 @@ Subset a b = (i : ℕ) → i < set_bits → a / 2 ^ i % 2 ≤ b / 2 ^ i % 2
 -- t is pending in s with the data of p and with all its votes, or it is logged and pending no more
 abbrev pub StaysPending : ℕ → Pending → State → Type 0
 StaysPending t p s =
-    ((q : Pending) × (s.pending t ≡ some q) × Subset p.votes q.votes × (q.«data» ≡ p.«data»)) ⊎
-    ((logged t s.log ≡ true) × (s.pending t ≡ none))
+    ((q : Pending) × (s.pending t ≡ Some q) × Subset p.votes q.votes × (q.«data» ≡ p.«data»)) ⊎
+    ((logged t s.log ≡ true) × (s.pending t ≡ None))
 
 -- no log repeats a term, and no term is both logged and pending
 pub record Apart (s : State) : Type 0 where
   pub distinct : Distinct s.log
-  pub apart : (t : ℕ) → logged t s.log ≡ true → s.pending t ≡ none
+  pub apart : (t : ℕ) → logged t s.log ≡ true → s.pending t ≡ None
 
 -- ---- own data
 
 -- the data of term t
-abbrev pub data_for : ℕ → Data
-data_for t = Data.Of (record { 0 = t })
+abbrev pub data_for : ℕ → Option Term
+data_for t = Some (record { 0 = t })
 
 abbrev pub own_pending : ℕ → Option Pending → Type 0
-own_pending t none = Unit {0}
-own_pending t (some p) = p.«data» ≡ data_for t
+own_pending t None = Unit {0}
+own_pending t (Some p) = p.«data» ≡ data_for t
 
 unfoldable pub own_log : List LogEntry → Type 0
 own_log [] = Unit {0}
@@ -57,13 +55,13 @@ pub record Own (s : State) : Type 0 where
   pub log : own_log s.log
   pub pending : (t : ℕ) → own_pending t (s.pending t)
 
-abbrev pub own_data : ℕ → Data → Type 0
-own_data t Data.Empty = Unit {0}
-own_data t (Data.Of u) = u.0 ≡ t
+abbrev pub own_data : ℕ → Option Term → Type 0
+own_data t None = Unit {0}
+own_data t (Some u) = u.0 ≡ t
 
-abbrev pub own_back : Piggyback → Type 0
-own_back Piggyback.None = Unit {0}
-own_back (Piggyback.Of t d) = d ≡ data_for t.0
+abbrev pub own_back : Option Piggyback → Type 0
+own_back None = Unit {0}
+own_back (Some again) = again.«data» ≡ data_for again.term.0
 
 -- a packet's data are those of their terms
 pub record OwnPacket (p : Packet) : Type 0 where

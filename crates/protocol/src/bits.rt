@@ -9,6 +9,7 @@ use network::graph::full_set;
 use network::units::Term;
 
 // The union of two sets.
+#[tactic(auto, using(crate::proofs::Sets::union_or))]
 pub fn union_of(a: u64, b: u64) -> u64
     ensures { result ≡ union a b }
 {

@@ -1,56 +1,18 @@
-// What is done with a node's Paxos state, after ctsim's protocol/paxos.rs: numbers of a lent
-// slice, from the place `at` on, as state.rt says.
-ghost use Rattle.std.specs.Prelude.{◌≡◌, false, not, ◌&&◌, ◌||◌, ◌+◌, ◌≤◌, ◌<◌, max, eqb, leb, ltb, length};
+// What is done with a node's Paxos state, after ctsim's protocol/paxos.rs.
+ghost use Rattle.std.specs.Prelude.{◌≡◌, false, not, ◌&&◌, ◌||◌, ◌+◌, ◌≤◌, ◌<◌, eqb, leb, ltb, Some};
+ghost use Rattle.std.specs.Int.Bits.{bit_or};
 ghost use Rattle.config.specs.Limits.{set_bits, max_terms};
 ghost use Rattle.network.specs.Graph.{has, all};
-ghost use Rattle.phy.specs.declared.packet.LastAccepted.{LastAccepted};
-ghost use Rattle.protocol.specs.Layout.{node_size};
-ghost use Rattle.protocol.specs.Paxos.{size, majority, held, hold, hold_new, merge_votes_up_to, greatest_quorum, commit_term, detect_gap, recovery};
+ghost use Rattle.protocol.specs.Paxos.{size, majority, held, hold, hold_new, merge_votes_up_to, greatest_quorum, raise, after_last, commit_term, detect_gap, recovery};
 ghost use Rattle.protocol.specs.Turns.{votes_of};
-ghost use Rattle.protocol.specs.View.{view, Kept, MayHold, Step, Commits, last_below, term_below, votes_at, logged_set};
+ghost use Rattle.protocol.specs.View.{view, Kept, MayHold, Step, Commits, last_below, term_below, votes_at};
 
 use crate::bits::{union_of, up_to};
-use crate::state::{
-    DATA_PLACE, LAST_PLACE, LOGGED_PLACE, PENDING_PLACE, after_last, code_of, data_at, held_set,
-    logged_set, pending_set, put_logged,
-};
+use crate::state::PaxosState;
 use config::limits::MAX_TERMS;
+use network::members::members_of;
 use network::units::{NodeId, Term};
-use phy::packet::{Data, LastAccepted, Nack, Piggyback};
-
-// A term that is missing, or none.
-#[derive(Clone, Copy)]
-pub enum Gap {
-    None,
-    At(Term),
-}
-
-// Whether a term is pending or logged.
-fn is_held(states: &[u64], at: usize, term: Term) -> bool
-    requires { Kept max_terms states.now at × (term.0 < max_terms) }
-    ensures { result ≡ held term.0 (view states.now at) }
-{
-    let t = term.0;
-    (held_set(states, at) >> t) % 2 == 1
-}
-
-// Merges votes into all pending terms up to the given one. Votes of a term that is not pending count
-// for nothing, so those between the lowest and the highest are written too, in a plain loop.
-pub fn merge_votes_up_to(states: &mut [u64], at: usize, up_to_term: Term, bitmap: u64)
-    requires { Kept max_terms states.old at }
-    ensures { Step (λ c. Unit {0}) at (merge_votes_up_to up_to_term.0 bitmap) states.old states.new }
-{
-    let reach = up_to(up_to_term);
-    let rest = pending_set(states, at) & reach;
-    if rest == 0 {
-        return;
-    }
-    let first = u64::trailing_zeros(rest) as usize;
-    let end = MAX_TERMS - u64::leading_zeros(rest) as usize;
-    for t in first..end {
-        states[at + t] = union_of(states[at + t], bitmap);
-    }
-}
+use phy::packet::Piggyback;
 
 // Whether so many votes are a majority of n nodes.
 fn is_majority(votes: u64, n: usize) -> bool
@@ -75,164 +37,211 @@ fn is_quorum(votes: u64, own: u64, pending: u64, t: usize, n: usize) -> bool
     is_majority(votes, n)
 }
 
-// Whether a term from one on and below another has other votes than the node's own, in a loop without a
-// branch.
-fn others_voted(states: &[u64], at: usize, own: u64, first: usize, end: usize) -> bool
-    requires { (at + node_size ≤ length states.now) × (first ≤ «end») × («end» ≤ max_terms) }
-    ensures { result ≡ not (all «end» (λ t. ltb t first || eqb (votes_at states.now at t) own)) }
-{
-    let mut other = 0u64;
-    for t in first..end {
-        other |= states[at + t] ^ own;
-    }
-    other != 0
-}
-
-// The greatest pending term that has a quorum, or none, of a node among two or more: from the highest
-// pending term down to the lowest, in a plain loop. The node's own votes alone are no quorum.
-pub fn greatest_quorum(states: &[u64], at: usize, node: NodeId, n: usize) -> LastAccepted
-    requires { Kept max_terms states.now at × (node.0 < set_bits) × (2 ≤ n) }
-    ensures { result ≡ greatest_quorum max_terms n (view states.now at) }
-{
-    let pending = pending_set(states, at);
-    if pending == 0 {
-        return LastAccepted::None;
-    }
-    let own = 1u64 << node.0;
-    let first = u64::trailing_zeros(pending) as usize;
-    let mut t = MAX_TERMS - u64::leading_zeros(pending) as usize;
-    if !others_voted(states, at, own, first, t) {
-        return LastAccepted::None;
-    }
-    while first < t {
-        t -= 1;
-        if is_quorum(states[at + t], own, pending, t, n) {
-            return LastAccepted::At(Term(t as u64));
-        }
-    }
-    LastAccepted::None
-}
-
-fn larger(a: u64, b: u64) -> u64
-    ensures { result ≡ max a b }
-{
-    if a < b { b } else { a }
-}
-
-// Commits a term that is not logged: it moves from pending to the log if it is pending, and last accepted
-// rises to it either way.
-fn commit_term(states: &mut [u64], at: usize, term: Term)
-    requires { Kept max_terms states.old at × (term.0 < max_terms) × (has (logged_set states.old at) term.0 ≡ false) }
-    ensures { Step (λ c. term.0 < c) at (commit_term term.0) states.old states.new }
+// Last accepted, risen to a term.
+fn raised(last: Option<Term>, term: Term) -> Option<Term>
+    ensures { result ≡ raise term.0 last }
 {
     let t = term.0;
-    let pending = pending_set(states, at);
-    states[at + LAST_PLACE] = larger(after_last(states, at), t + 1);
-    if (pending >> t) % 2 == 1 {
-        let logged = logged_set(states, at);
-        let end = u64::count_ones(logged) as usize;
-        put_logged(states, at, end, term);
-        states[at + PENDING_PLACE] = pending - (1u64 << t);
-        states[at + LOGGED_PLACE] = logged | (1u64 << t);
-    }
-}
-
-// Commits all terms up to and including `last`; answers the set of those newly committed.
-pub fn commit_up_to(states: &mut [u64], at: usize, last: Term) -> u64
-    requires { Kept max_terms states.old at × (last.0 < max_terms) }
-    ensures { Commits (LastAccepted.At last) at states.old states.new result }
-{
-    let reach = up_to(last);
-    let newly = reach - (reach & logged_set(states, at));
-    let mut rest = newly;
-    while rest != 0 {
-        let t = u64::trailing_zeros(rest) as u64;
-        commit_term(states, at, Term(t));
-        rest = rest & (rest - 1);
-    }
-    newly
-}
-
-// Commits up to a term, or nothing.
-pub fn commit_to(states: &mut [u64], at: usize, last: LastAccepted) -> u64
-    requires { Kept max_terms states.old at × last_below max_terms last }
-    ensures { Commits last at states.old states.new result }
-{
     match last {
-        LastAccepted::None => 0,
-        LastAccepted::At(u) => commit_up_to(states, at, u),
+        None => Some(Term(t)),
+        Some(u) => Some(Term(if u.0 < t { t } else { u.0 })),
     }
 }
 
-// The first term after last accepted and below `up_to_term` that is neither logged nor pending.
-pub fn detect_gap(states: &[u64], at: usize, up_to_term: Term) -> Gap
-    requires { Kept max_terms states.now at × (up_to_term.0 ≤ max_terms) }
-    ensures { result ≡ detect_gap up_to_term.0 (view states.now at) }
-{
-    let end = up_to_term.0;
-    let last = after_last(states, at);
-    if end <= last {
-        return Gap::None;
+impl PaxosState {
+    // The set of the terms that are pending or logged.
+    fn held_set(&self) -> u64
+        ensures { result ≡ bit_or self.now.pending self.now.logged }
+    {
+        self.pending | self.logged
     }
-    let free = !held_set(states, at) >> last;
-    let t = last + u64::trailing_zeros(free) as u64;
-    if end <= t {
-        return Gap::None;
-    }
-    Gap::At(Term(t))
-}
 
-// A term that is neither logged nor pending becomes pending.
-pub fn hold(states: &mut [u64], at: usize, term: Term, votes: u64, d: Data)
-    requires { MayHold states.old at term.0 d }
-    ensures { Step (λ c. term.0 < c) at (hold term.0 votes d) states.old states.new }
-{
-    let t = term.0 as usize;
-    states[at + t] = votes;
-    states[at + DATA_PLACE + t] = code_of(d);
-    states[at + PENDING_PLACE] = pending_set(states, at) | (1u64 << t);
-}
+    // Whether a term is pending or logged.
+    fn is_held(&self, term: Term) -> bool
+        requires { Kept max_terms self.now × (term.0 < max_terms) }
+        ensures { result ≡ held term.0 (view self.now) }
+    {
+        let t = term.0;
+        (self.held_set() >> t) % 2 == 1
+    }
 
-// A term becomes pending, with these votes and data, unless it is logged or pending already.
-pub fn hold_new(states: &mut [u64], at: usize, term: Term, votes: u64, d: Data)
-    requires { Kept max_terms states.old at × term_below max_terms term.0 d }
-    ensures { Step (λ c. term.0 < c) at (hold_new term.0 votes d) states.old states.new }
-{
-    if is_held(states, at, term) {
-        return;
+    // One more than the last accepted term, 0 for none.
+    fn after_last(&self) -> u64
+        requires { Kept max_terms self.now }
+        ensures { result ≡ after_last self.now.last_accepted }
+    {
+        match self.last_accepted {
+            None => 0,
+            Some(u) => u.0 + 1,
+        }
     }
-    hold(states, at, term, votes, d);
-}
 
-// The votes for a pending term, and no vote for any other.
-pub fn votes_of(states: &[u64], at: usize, term: Term) -> u64
-    requires { Kept max_terms states.now at }
-    ensures { result ≡ votes_of ((view states.now at).pending term.0) }
-{
-    let t = term.0 as usize;
-    if MAX_TERMS <= t {
-        return 0;
+    // Merges votes into all pending terms up to the given one. Votes of a term that is not pending count
+    // for nothing, so those between the lowest and the highest are written too, in a plain loop.
+    pub fn merge_votes_up_to(&mut self, up_to_term: Term, bitmap: u64)
+        requires { Kept max_terms self.old }
+        ensures { Step (λ c. Unit {0}) (merge_votes_up_to up_to_term.0 bitmap) self.old self.new }
+    {
+        let reach = up_to(up_to_term);
+        let rest = self.pending & reach;
+        if rest == 0 {
+            return;
+        }
+        let first = u64::trailing_zeros(rest) as usize;
+        let end = MAX_TERMS - u64::leading_zeros(rest) as usize;
+        for votes in &mut self.votes[first..end] {
+            *votes = union_of(*votes, bitmap);
+        }
     }
-    if (pending_set(states, at) >> t) % 2 == 0 {
-        return 0;
-    }
-    states[at + t]
-}
 
-// What the node can send to one that misses a term: the term and its data, if it holds it.
-pub fn recover(states: &[u64], at: usize, nack: Nack) -> Piggyback
-    requires { Kept max_terms states.now at }
-    ensures { result ≡ recovery nack (view states.now at) }
-{
-    let Nack::Of(term) = nack else {
-        return Piggyback::None;
-    };
-    let t = term.0 as usize;
-    if MAX_TERMS <= t {
-        return Piggyback::None;
+    // Whether a term from one on and below another has other votes than the node's own, in a loop without a
+    // branch.
+    fn others_voted(&self, own: u64, first: usize, end: usize) -> bool
+        requires { (first ≤ «end») × («end» ≤ max_terms) }
+        ensures { result ≡ not (all «end» (λ t. ltb t first || eqb (votes_at self.now t) own)) }
+    {
+        let mut other = 0u64;
+        for &votes in &self.votes[first..end] {
+            other |= votes ^ own;
+        }
+        other != 0
     }
-    if !is_held(states, at, term) {
-        return Piggyback::None;
+
+    // The greatest pending term that has a quorum, or none, of a node among two or more: from the highest
+    // pending term down to the lowest, in a plain loop. The node's own votes alone are no quorum.
+    pub fn greatest_quorum(&self, node: NodeId, n: usize) -> Option<Term>
+        requires { Kept max_terms self.now × (node.0 < set_bits) × (2 ≤ n) }
+        ensures { result ≡ greatest_quorum max_terms n (view self.now) }
+    {
+        let pending = self.pending;
+        if pending == 0 {
+            return None;
+        }
+        let own = 1u64 << node.0;
+        let first = u64::trailing_zeros(pending) as usize;
+        let end = MAX_TERMS - u64::leading_zeros(pending) as usize;
+        if !self.others_voted(own, first, end) {
+            return None;
+        }
+        for t in (first..end).rev() {
+            if is_quorum(self.votes[t], own, pending, t, n) {
+                return Some(Term(t as u64));
+            }
+        }
+        None
     }
-    Piggyback::Of(term, data_at(states, at, term))
+
+    // Commits a term that is not logged: it moves from pending to the log if it is pending, and last accepted
+    // rises to it either way.
+    fn commit_term(&mut self, term: Term)
+        requires { Kept max_terms self.old × (term.0 < max_terms) × (has self.old.logged term.0 ≡ false) }
+        ensures { Step (λ c. term.0 < c) (commit_term term.0) self.old self.new }
+    {
+        let t = term.0;
+        self.last_accepted = raised(self.last_accepted, term);
+        if (self.pending >> t) % 2 == 1 {
+            let end = u64::count_ones(self.logged) as usize;
+            self.log[end] = term;
+            self.pending -= 1u64 << t;
+            self.logged |= 1u64 << t;
+        }
+    }
+
+    // Commits all terms up to and including `last`; answers the set of those newly committed.
+    pub fn commit_up_to(&mut self, last: Term) -> u64
+        requires { Kept max_terms self.old × (last.0 < max_terms) }
+        ensures { Commits (Some last) self.old self.new result }
+    {
+        let reach = up_to(last);
+        let newly = reach - (reach & self.logged);
+        for t in members_of(newly) {
+            self.commit_term(Term(t as u64));
+        }
+        newly
+    }
+
+    // Commits up to a term, or nothing.
+    pub fn commit_to(&mut self, last: Option<Term>) -> u64
+        requires { Kept max_terms self.old × last_below max_terms last }
+        ensures { Commits last self.old self.new result }
+    {
+        match last {
+            None => 0,
+            Some(u) => self.commit_up_to(u),
+        }
+    }
+
+    // The first term after last accepted and below `up_to_term` that is neither logged nor pending.
+    pub fn detect_gap(&self, up_to_term: Term) -> Option<Term>
+        requires { Kept max_terms self.now × (up_to_term.0 ≤ max_terms) }
+        ensures { result ≡ detect_gap up_to_term.0 (view self.now) }
+    {
+        let end = up_to_term.0;
+        let last = self.after_last();
+        if end <= last {
+            return None;
+        }
+        let free = !self.held_set() >> last;
+        let t = last + u64::trailing_zeros(free) as u64;
+        if end <= t {
+            return None;
+        }
+        Some(Term(t))
+    }
+
+    // A term that is neither logged nor pending becomes pending.
+    pub fn hold(&mut self, term: Term, votes: u64, d: Option<Term>)
+        requires { MayHold self.old term.0 d }
+        ensures { Step (λ c. term.0 < c) (hold term.0 votes d) self.old self.new }
+    {
+        let t = term.0 as usize;
+        self.votes[t] = votes;
+        self.data[t] = d;
+        self.pending |= 1u64 << t;
+    }
+
+    // A term becomes pending, with these votes and data, unless it is logged or pending already.
+    pub fn hold_new(&mut self, term: Term, votes: u64, d: Option<Term>)
+        requires { Kept max_terms self.old × term_below max_terms term.0 d }
+        ensures { Step (λ c. term.0 < c) (hold_new term.0 votes d) self.old self.new }
+    {
+        if self.is_held(term) {
+            return;
+        }
+        self.hold(term, votes, d);
+    }
+
+    // The votes for a pending term, and no vote for any other.
+    pub fn votes_of(&self, term: Term) -> u64
+        requires { Kept max_terms self.now }
+        ensures { result ≡ votes_of ((view self.now).pending term.0) }
+    {
+        let t = term.0 as usize;
+        if MAX_TERMS <= t {
+            return 0;
+        }
+        if (self.pending >> t) % 2 == 0 {
+            return 0;
+        }
+        self.votes[t]
+    }
+
+    // What the node can send to one that misses a term: the term and its data, if it holds it.
+    pub fn recover(&self, nack: Option<Term>) -> Option<Piggyback>
+        requires { Kept max_terms self.now }
+        ensures { result ≡ recovery nack (view self.now) }
+    {
+        let Some(term) = nack else {
+            return None;
+        };
+        let t = term.0 as usize;
+        if MAX_TERMS <= t {
+            return None;
+        }
+        if !self.is_held(term) {
+            return None;
+        }
+        let data = self.data[t];
+        Some(Piggyback { term, data })
+    }
 }
