@@ -1,35 +1,34 @@
 -- A run before its first round: every node listens, and nothing is held, logged or recorded. Assumes nothing.
-use Prim.Native.Nat.{ℕ, zero, suc, ◌+◌, ◌-◌, ◌*◌, ◌^◌, ◌≤◌, ◌<◌}
+use Rattle.std.specs.Prelude.{None}
+use Prim.Native.Nat.{ℕ, zero, suc, ◌+◌, ◌-◌, ◌^◌, ◌≤◌, ◌<◌}
 use mathlib.Core.Path.{◌≡◌, refl, sym, ap, subst⁻¹, ◌∙◌}
-use mathlib.Core.Bool.{Bool, true, false, cond}
+use mathlib.Core.Bool.{Bool, false, cond}
 use mathlib.Core.List.{List, []}
-use mathlib.Core.Logic.{◌⊎◌, inl, inr}
 use native.Mathlib.Nat.{zero-mul, le_refl}
 use native.Mathlib.Omega.{arith}
-use lib.Dec.{leb}
 use lib.Pow.{pow_pos}
-use borrow.Author.Tests.{leb-true, le-leb, lt-leb}
 use lib.ListN.{replicate, length-replicate, get_or-replicate}
 use Rattle.config.specs.Limits.{max_nodes, max_terms}
 use Rattle.random.specs.Table.{tabulate}
 use Rattle.network.specs.Graph.{has, set_of}
 use Rattle.network.proofs.Lowest.{has_zero}
-use Rattle.network.proofs.Sets.{two}
 use Rattle.random.proofs.Tables.{is_tabulate}
 use Rattle.phy.specs.declared.node.Node.{Node}
-use Rattle.phy.specs.declared.packet.Piggyback.{Piggyback}
 use Rattle.phy.specs.declared.slot.Radios.{Radios}
 use Rattle.phy.specs.Node.{new, total, is_listening, is_flooding}
 use Rattle.phy.specs.Slot.{at, Standing}
 use Rattle.phy.specs.View.{Stands}
 use Rattle.phy.proofs.Count.{count_none}
 use Rattle.phy.proofs.Snapshots.{scheduled_none}
-use Rattle.protocol.specs.Layout.{node_size, first_of}
+use Rattle.protocol.specs.declared.state.PaxosState.{PaxosState}
 use Rattle.protocol.specs.Paxos.{empty}
-use Rattle.protocol.proofs.Frame.{first_view, first_kept, zeros, zeros_no_term}
+use Rattle.protocol.specs.View.{NoTerm, no_terms}
+use Rattle.protocol.proofs.Kept.{first_view, first_kept, no_terms_none}
+use Rattle.pipeline.proofs.Recordings.{starts_none_made}
 use Rattle.pipeline.specs.declared.carry.Carry.{Carry}
 use Rattle.pipeline.specs.Round.{recorded}
-use Rattle.pipeline.specs.View.{few_nodes, some_nodes, history_size, Blank, Recording, Sharing, states_of, records_of, shared_of, table_size}
+use Rattle.pipeline.specs.declared.records.History.{History}
+use Rattle.pipeline.specs.View.{no_history, state_in, Blank, Recording, Sharing, states_of, records_of, shared_of, table_size}
 use Rattle.rules.specs.Run.{Given, begin}
 use Rattle.rules.proofs.Sums.{sum_new}
 use Rattle.rounds.specs.Going.{NewRadios, NewRun}
@@ -96,43 +95,29 @@ module _ (n listening : ℕ) (few : n ≤ max_nodes) (all : listening ≡ 2 ^ n 
 
 -- ---- the nodes' part
 
--- the table of empty states where there are few nodes, some, or more
-pub table_few : (n : ℕ) → n ≤ few_nodes → replicate {A = ℕ} (node_size * few_nodes) 0 ≡ replicate (table_size n) 0
-table_few n h = rw (le-leb n few_nodes h)
-
-pub table_some : (n : ℕ) → few_nodes < n → n ≤ some_nodes → replicate {A = ℕ} (node_size * some_nodes) 0 ≡ replicate (table_size n) 0
-table_some n l h = rw (lt-leb n few_nodes l, le-leb n some_nodes h)
-
-pub table_all : (n : ℕ) → some_nodes < n → replicate {A = ℕ} (node_size * max_nodes) 0 ≡ replicate (table_size n) 0
-table_all n l = rw (lt-leb n few_nodes (omega arith), lt-leb n some_nodes l)
-
--- the table has room for all of them
-pub table_fits : (n : ℕ) → n ≤ max_nodes → node_size * n ≤ table_size n
-table_fits n few = go (two (leb n few_nodes)) (two (leb n some_nodes))
-  where
-    go : (leb n few_nodes ≡ true) ⊎ (leb n few_nodes ≡ false) → (leb n some_nodes ≡ true) ⊎ (leb n some_nodes ≡ false) → node_size * n ≤ table_size n
-    go (inl e) w = rw e (omega (arith, leb-true n few_nodes e))
-    go (inr e) (inl w) = rw (e, w) (omega (arith, leb-true n some_nodes w))
-    go (inr e) (inr w) = rw (e, w) (omega (arith, few))
-
--- tables of zeros are blank
-pub zeros_blank : (n : ℕ) {b : List ℕ} → b ≡ replicate (table_size n) 0 → Blank n b (replicate history_size 0)
+-- a table of empty states, and an empty history, are blank
+pub zeros_blank : (n : ℕ) {b : List PaxosState} → b ≡ replicate (table_size n) no_terms → Blank n b no_history
 zeros_blank n e =
-    subst⁻¹ (λ (b : List ℕ). Blank n b (replicate history_size 0)) e
+    subst⁻¹ (λ (b : List PaxosState). Blank n b no_history) e
     (record {
-      room = length-replicate (table_size n) 0;
-      each = λ j h. zeros_no_term (table_size n) (first_of j);
-      started = record { room = refl; unused = λ t h w. zeros history_size t };
+      room = length-replicate (table_size n) no_terms;
+      each = λ j h. no_term (table_size n) j;
+      started = record { unused = λ t h. starts_none_made max_terms t };
     })
+  where
+    no_term : (m j : ℕ) → NoTerm (state_in (replicate m no_terms) j)
+    no_term zero j = record { pending = refl; logged = refl; last = refl }
+    no_term (suc m) zero = no_terms_none
+    no_term (suc m) (suc j) = no_term m j
 
 module _ (n : ℕ) (few : n ≤ max_nodes) where
   abbrev new_carry : Carry
-  new_carry = record { counter = 0; recorded = record { count = 0; terms = 0 }; piggyback = Piggyback.None; nacks = 0; piggybacks = 0 }
+  new_carry = record { counter = 0; recorded = record { count = 0; terms = 0 }; piggyback = None; nacks = 0; piggybacks = 0 }
 
-  module _ {b t : List ℕ} (blank : Blank n b t) where
+  module _ {b : List PaxosState} {t : History} (blank : Blank n b t) where
     recording : Recording new_carry.recorded t
     unfolding records_of recorded tabulate
-    recording = record { room = blank.started.room; few = sym (count_none max_terms (has 0) (λ t h. has_zero t)); known = λ t h. has_zero t }
+    recording = record { few = sym (count_none max_terms (has 0) (λ t h. has_zero t)); known = λ t h. has_zero t }
 
     states_new : states_of n b ≡ replicate n empty
     unfolding states_of
@@ -147,7 +132,7 @@ module _ (n : ℕ) (few : n ≤ max_nodes) where
       counter = 0;
       starts = [];
       records = [];
-      piggyback = Piggyback.None;
+      piggyback = None;
       nacks = 0;
       piggybacks = 0;
     }
@@ -156,7 +141,7 @@ module _ (n : ℕ) (few : n ≤ max_nodes) where
     new_sharing =
         record {
           few = omega arith;
-          kept = record { room = blank.room; each = λ j h. first_kept (blank.each j h) (omega (arith, h, blank.room, table_fits n few)) };
+          kept = record { room = blank.room; each = λ j h. first_kept (blank.each j h) };
           started = blank.started;
           recording = recording;
           back = tt;

@@ -13,6 +13,8 @@ use Rattle.phy.specs.declared.slot.Settings.{Settings}
 use Rattle.phy.specs.Round.{Flooded, length_limit, participants, took_part_of, round}
 use Rattle.phy.specs.View.{Tables, Sound, Stands, CanFlood, Rounded, as_setup}
 use Rattle.phy.proofs.Nodes.{count_cong, ones_set_of}
+use Rattle.protocol.specs.declared.state.PaxosState.{PaxosState}
+use Rattle.pipeline.specs.declared.records.History.{History}
 use Rattle.pipeline.specs.declared.carry.Carry.{Carry}
 use Rattle.pipeline.specs.declared.round.PreparedRound.{PreparedRound}
 use Rattle.pipeline.specs.Round.{Prepared, prepare_round, process_round}
@@ -22,7 +24,7 @@ use Rattle.rules.specs.Run.{Given, Running, prepared_in, flooded_in, run_round}
 use Rattle.rules.proofs.Rounds.{longest_few, took_part_few}
 use Rattle.rounds.specs.declared.run.Plan.{Plan}
 use Rattle.rounds.specs.declared.run.Run.{Run}
-use Rattle.rounds.specs.Going.{planned, settings_of, Workspace, workspace, lent_of, Shows, Steady, Going, Plays}
+use Rattle.rounds.specs.Going.{planned, settings_of, Contents, contents_of, lent_of, Shows, Steady, Going, Plays}
 
 -- how many nodes took part, counted in the word
 ones_part : (g : Given) (k : ℕ) (r : Running) → ones (flooded_in g k r).part ≡ took_part_of g.nodes (flooded_in g k r)
@@ -34,18 +36,18 @@ sound_as : (p : Plan) (m q : ℕ) {x : Radios} → Sound (settings_of p m) x →
 sound_as p m q s =
     record { few = s.few; repeats = s.repeats; interval = s.interval; attempts = s.attempts; successes = s.successes; next = s.next; stored = s.stored }
 
-module _ {graph : List ℕ} {p : Plan} {k : ℕ} {x : Run} {w : Workspace} {b₀ : List ℕ} {s₀ : Running}
-    (ok : Accepted (planned graph p)) (early : k < most_rounds max_terms) (g₀ : Going graph p k x w b₀ s₀) where
+module _ {p : Plan} {k : ℕ} {x : Run} {w : Contents} {b₀ : List ℕ} {s₀ : Running}
+    (ok : Accepted (planned p)) (early : k < most_rounds max_terms) (g₀ : Going p k x w b₀ s₀) where
   abbrev given : Given
-  given = planned graph p
+  given = planned p
 
-  initiator_in : k % p.nodes < p.nodes
+  initiator_in : k % p.network.graph.nodes < p.network.graph.nodes
   initiator_in = mod-lt k (omega (arith, ok.two))
 
   abbrev longest : ℕ
-  longest = length_limit p.config.round_slots p.diameter p.config.flood_repeats
+  longest = length_limit p.config.round_slots p.network.diameter p.config.flood_repeats
 
-  pub may_prepare : MayPrepare p.nodes p.config.num_proposals (record { 0 = k % p.nodes }) x.carry w.states w.history
+  pub may_prepare : MayPrepare p.network.graph.nodes p.config.num_proposals (record { 0 = k % p.network.graph.nodes }) x.carry w.states w.history
   may_prepare =
       record {
         sharing = g₀.steady.sharing;
@@ -56,10 +58,10 @@ module _ {graph : List ℕ} {p : Plan} {k : ℕ} {x : Run} {w : Workspace} {b₀
         most = ok.proposals;
       }
 
-  pub can_flood : {y : Settings} {most : ℕ} → y ≡ settings_of p x.progress → most ≡ longest → CanFlood y most (k % p.nodes) x.flood (lent_of w)
+  pub can_flood : {y : Settings} {most : ℕ} → y ≡ settings_of p x.progress → most ≡ longest → CanFlood y most (k % p.network.graph.nodes) x.flood (lent_of w)
   can_flood {y} {most} q e =
-      subst⁻¹ (λ (z : Settings). CanFlood z most (k % p.nodes) x.flood (lent_of w)) q
-      (let few = longest_few p.config.round_slots p.diameter p.config.flood_repeats ok.round_slots ok.diameter_low ok.repeats_high in
+      subst⁻¹ (λ (z : Settings). CanFlood z most (k % p.network.graph.nodes) x.flood (lent_of w)) q
+      (let few = longest_few p.config.round_slots p.network.diameter p.config.flood_repeats ok.round_slots ok.diameter_low ok.repeats_high in
       record {
         sound = sound_as p 0 x.progress g₀.steady.sound;
         node = initiator_in;
@@ -73,10 +75,10 @@ module _ {graph : List ℕ} {p : Plan} {k : ℕ} {x : Run} {w : Workspace} {b₀
       })
 
   -- what the four calls of a round give
-  module _ {prepared : PreparedRound} {b t : List ℕ}
-      (pr : Prepares p.nodes p.config.num_proposals (record { 0 = k % p.nodes }) x.flood.slot x.carry w.states w.history prepared b t)
+  module _ {prepared : PreparedRound} {b : List PaxosState} {t : History}
+      (pr : Prepares p.network.graph.nodes p.config.num_proposals (record { 0 = k % p.network.graph.nodes }) x.flood.slot x.carry w.states w.history prepared b t)
     where
-      pub may_process : MayProcess p.nodes prepared.packet prepared.carry b t
+      pub may_process : MayProcess p.network.graph.nodes prepared.packet prepared.carry b t
       may_process =
           record {
             sharing = pr.sharing;
@@ -85,67 +87,67 @@ module _ {graph : List ℕ} {p : Plan} {k : ℕ} {x : Run} {w : Workspace} {b₀
             below = pr.below;
           }
 
-      module _ {y : Settings} {most : ℕ} {flooded : Round} {l : Tables} {carry : Carry} {b' t' : List ℕ} (q : y ≡ settings_of p x.progress) (e : most ≡ longest)
-          (fl₀ : Rounded y graph most (k % p.nodes) x.flood (lent_of w) flooded l)
-          (pc : Processes p.nodes prepared.packet flooded.flood.slot flooded.part prepared.carry b t carry b' t')
+      module _ {y : Settings} {most : ℕ} {flooded : Round} {l : Tables} {carry : Carry} {b' : List PaxosState} {t' : History} (q : y ≡ settings_of p x.progress) (e : most ≡ longest)
+          (fl₀ : Rounded y p.network.graph.rows most (k % p.network.graph.nodes) x.flood (lent_of w) flooded l)
+          (pc : Processes p.network.graph.nodes prepared.packet flooded.flood.slot flooded.part prepared.carry b t carry b' t')
           {size : ℕ} (sized : size ≡ ones flooded.part) where
-        fl : Rounded (settings_of p x.progress) graph most (k % p.nodes) x.flood (lent_of w) flooded l
-        fl = subst (λ (z : Settings). Rounded z graph most (k % p.nodes) x.flood (lent_of w) flooded l) q fl₀
+        fl : Rounded (settings_of p x.progress) p.network.graph.rows most (k % p.network.graph.nodes) x.flood (lent_of w) flooded l
+        fl = subst (λ (z : Settings). Rounded z p.network.graph.rows most (k % p.network.graph.nodes) x.flood (lent_of w) flooded l) q fl₀
 
         abbrev after : Run
         after = record { flood = flooded.flood; carry = carry; took_part = x.took_part + size; progress = x.progress }
 
-        abbrev then : Workspace
-        then = workspace l.queue l.stream b' t' l.snapshots
+        abbrev then : Contents
+        then = contents_of l.queue l.stream b' t' l.snapshots
 
         -- beside the round of the definitions
-        module _ {b₁ : List ℕ} {s : Running} (g : Going graph p k x w b₁ s) where
+        module _ {b₁ : List ℕ} {s : Running} (g : Going p k x w b₁ s) where
           abbrev mine : Prepared
-          mine = prepare_round p.nodes p.config.num_proposals (k % p.nodes) x.flood.slot.0 (shared_of p.nodes x.carry w.states w.history)
+          mine = prepare_round p.network.graph.nodes p.config.num_proposals (k % p.network.graph.nodes) x.flood.slot.0 (shared_of p.network.graph.nodes x.carry w.states w.history)
 
           same : mine ≡ prepared_in given k s
-          same = ap₂ (prepare_round p.nodes p.config.num_proposals (k % p.nodes)) g.shows.standing.slot g.shows.shared
+          same = ap₂ (prepare_round p.network.graph.nodes p.config.num_proposals (k % p.network.graph.nodes)) g.shows.standing.slot g.shows.shared
 
           packet_is : prepared.packet ≡ (prepared_in given k s).packet
           packet_is = ◌∙◌ {b = mine.packet} pr.packet (ap (λ (q : Prepared). q.packet) same)
 
           abbrev here : Flooded
-          here = round (as_setup (settings_of p x.progress) graph given.heard) most (k % p.nodes) prepared.packet s.standing
+          here = round (as_setup (settings_of p x.progress) p.network.graph.rows given.heard) most (k % p.network.graph.nodes) prepared.packet s.standing
 
           flood_is : here ≡ flooded_in given k s
           flood_is = λ j.
               round
-              (record { rows = graph; nodes = p.nodes; repeats = p.config.flood_repeats; interval = p.config.snapshot_interval; progress = g.progress j; heard = given.heard })
-              (e j) (k % p.nodes) (packet_is j) s.standing
+              (record { rows = p.network.graph.rows; nodes = p.network.graph.nodes; repeats = p.config.flood_repeats; interval = p.config.snapshot_interval; progress = g.progress j; heard = given.heard })
+              (e j) (k % p.network.graph.nodes) (packet_is j) s.standing
 
-          stood : Stands p.nodes flooded.flood b₁ l.snapshots here.after × (flooded.part ≡ here.part)
+          stood : Stands p.network.graph.nodes flooded.flood b₁ l.snapshots here.after × (flooded.part ≡ here.part)
           stood = fl.stands given.heard g.steady.source prepared.packet b₁ s.standing g.shows.standing
 
           part_is : flooded.part ≡ (flooded_in given k s).part
           part_is = ◌∙◌ {b = here.part} stood.1 (ap (λ (f : Flooded). f.part) flood_is)
 
-          took_part_is : size ≡ took_part_of p.nodes (flooded_in given k s)
+          took_part_is : size ≡ took_part_of p.network.graph.nodes (flooded_in given k s)
           took_part_is = sized ∙ ap ones part_is ∙ ones_part given k s
 
           shows : Shows p after then b₁ (run_round given k s)
           unfolding run_round
           shows =
-              let standing : Stands p.nodes flooded.flood b₁ l.snapshots (flooded_in given k s).after
-              = subst (λ (f : Flooded). Stands p.nodes flooded.flood b₁ l.snapshots f.after) flood_is stood.0 in
-              let before : shared_of p.nodes prepared.carry b t ≡ (prepared_in given k s).shared
+              let standing : Stands p.network.graph.nodes flooded.flood b₁ l.snapshots (flooded_in given k s).after
+              = subst (λ (f : Flooded). Stands p.network.graph.nodes flooded.flood b₁ l.snapshots f.after) flood_is stood.0 in
+              let before : shared_of p.network.graph.nodes prepared.carry b t ≡ (prepared_in given k s).shared
               = ◌∙◌ {b = mine.shared} pr.shared (ap (λ (q : Prepared). q.shared) same) in
               record {
                 standing = standing;
-                shared = pc.shared ∙ (λ j. process_round p.nodes (packet_is j) (standing.slot j) (part_is j) (before j));
+                shared = pc.shared ∙ (λ j. process_round p.network.graph.nodes (packet_is j) (standing.slot j) (part_is j) (before j));
                 took_part = ap₂ ◌+◌ g.shows.took_part took_part_is;
               }
 
         took_part_fits : x.took_part + size ≤ max_nodes * (k + 1)
-        took_part_fits = omega (arith, took_part_is g₀, took_part_few p.nodes (flooded_in given k s₀), ok.few, g₀.steady.took_part)
+        took_part_fits = omega (arith, took_part_is g₀, took_part_few p.network.graph.nodes (flooded_in given k s₀), ok.few, g₀.steady.took_part)
 
         steady : Steady given.heard p (k + 1) after then
         steady =
-            let few = longest_few p.config.round_slots p.diameter p.config.flood_repeats ok.round_slots ok.diameter_low ok.repeats_high in
+            let few = longest_few p.config.round_slots p.network.diameter p.config.flood_repeats ok.round_slots ok.diameter_low ok.repeats_high in
             record {
               sound = sound_as p x.progress 0 fl.sound;
               sharing = pc.sharing;
@@ -157,5 +159,5 @@ module _ {graph : List ℕ} {p : Plan} {k : ℕ} {x : Run} {w : Workspace} {b₀
               piggybacks = omega (arith, pc.piggybacks, pr.piggybacks, g₀.steady.piggybacks, ok.few);
             }
 
-        pub round_plays : Plays graph p k x w (record { run = after; round = record { packet = prepared.packet; part = flooded.part } }) then
+        pub round_plays : Plays p k x w (record { run = after; round = record { packet = prepared.packet; part = flooded.part } }) then
         round_plays = record { steady = steady; shows = λ b₁ s g. shows g; round = λ b₁ s g i. record { packet = packet_is g i; part = part_is g i }; first = fl.first }

@@ -1,29 +1,40 @@
 // The rounds of a run, up to its end.
 ghost use Rattle.std.specs.Prelude.{◌≡◌, cond, ◌&&◌, eqb, ltb, ◌+◌, ◌*◌, ◌≤◌};
-ghost use Rattle.std.specs.Int.Count.{ones};
-ghost use Rattle.config.specs.Limits.{set_bits, max_nodes, max_terms, max_repeats, rounds_per_link, extra_rounds};
-ghost use Rattle.rounds.specs.Going.{settings_of, workspace, CanPlay, Plays, MovesOn, CanStart, CanGo, Goes, Stops, NewRadios, NewRun};
+ghost use Rattle.config.specs.Limits.{max_nodes, max_terms, max_repeats, rounds_per_link, extra_rounds};
+ghost use Rattle.rules.specs.Answers.{end_number};
+ghost use Rattle.rounds.specs.Going.{settings_of, contents, SameTables, CanSurvey, Surveys, CanPlay, Plays, MovesOn, CanStart, CanGo, Goes, Stops, NewRadios, NewRun};
 
-use super::survey::survey;
+use super::survey::{Surveyed, survey};
 use config::Config;
 use config::limits::{EXTRA_ROUNDS, MAX_NODES, ROUNDS_PER_LINK};
 use network::graph::full_set;
 use network::units::{NodeId, Slot};
 use phy::ci::{flood_identical_round, length_limit};
-use phy::packet::Piggyback;
 use phy::slot::{QUEUE_SIZE, Radios, Settings};
 use pipeline::carry::Carry;
-use pipeline::records::{HISTORY_SIZE, Recorded};
+use pipeline::records::{History, Recorded};
 use pipeline::round::{prepare_round, process_round};
-use random::draws::{STREAM_SIZE, begin_draws};
-use rules::answer::SeenRound;
+use protocol::state::PaxosState;
+use random::draws::{Stream, begin_draws};
+use rules::answer::{End, SeenRound};
+use rules::networks::Network;
 
-// What a run is given beside the rows of its graph.
+// What a run is given: its network and its configuration.
 #[derive(Clone, Copy)]
 pub struct Plan {
-    pub nodes: usize,
-    pub diameter: usize,
+    pub network: Network,
     pub config: Config,
+}
+
+// What the rounds write to: the queue of the flooding nodes, the stream of the draws, and, lent, the table of the nodes'
+// Paxos states, the proposals' history and the snapshots.
+#[derive(Drop)]
+pub struct Workspace<'a> {
+    pub queue: [u64; QUEUE_SIZE],
+    pub stream: Stream,
+    pub states: &'a mut [PaxosState],
+    pub history: &'a mut History,
+    pub snapshots: &'a mut [u64],
 }
 
 // Where a run stands between rounds: its radios, what the nodes share, how many nodes took part over all rounds, and the
@@ -43,29 +54,22 @@ pub struct Played {
     pub round: SeenRound,
 }
 
-// One round more: where the run stands after it, what is seen of it, and the end that came with it, or 0.
+// One round more: where the run stands after it, what is seen of it, and the end that came with it, if one did.
 #[derive(Clone, Copy)]
 pub struct Next {
     pub run: Run,
     pub round: SeenRound,
-    pub ended: u64,
+    pub ended: Option<End>,
 }
 
-// The last of the rounds that a run may have, if it came to it.
-#[derive(Clone, Copy)]
-pub enum LastRound {
-    None,
-    Of(SeenRound),
-}
-
-// A run that has stopped: after how many rounds, the last that it might have, and its end; 0 where the rounds were used
-// up.
+// A run that has stopped: after how many rounds, the last that it might have, and its end; none where the rounds were
+// used up.
 #[derive(Clone, Copy)]
 pub struct Stopped {
     pub run: Run,
     pub rounds: u64,
-    pub last: LastRound,
-    pub ended: u64,
+    pub last: Option<SeenRound>,
+    pub ended: Option<End>,
 }
 
 // The radios before the first round: every node listens.
@@ -97,7 +101,7 @@ pub fn new_run(n: usize) -> Run
     let carry = Carry {
         counter: 0,
         recorded: Recorded { count: 0, terms: 0 },
-        piggyback: Piggyback::None,
+        piggyback: None,
         nacks: 0,
         piggybacks: 0,
     };
@@ -110,12 +114,12 @@ pub fn new_run(n: usize) -> Run
 }
 
 // The flood's settings, for snapshots that show this progress.
-fn settings_of(plan: Plan, progress: u64) -> Settings
-    requires { plan.config.flood_repeats ≤ max_repeats }
-    ensures { result ≡ settings_of plan progress }
+fn settings_of(plan: &Plan, progress: u64) -> Settings
+    requires { plan.now.config.flood_repeats ≤ max_repeats }
+    ensures { result ≡ settings_of plan.now progress }
 {
     Settings {
-        nodes: plan.nodes,
+        nodes: plan.network.graph.nodes,
         repeats: plan.config.flood_repeats as u32,
         interval: plan.config.snapshot_interval,
         progress,
@@ -123,184 +127,168 @@ fn settings_of(plan: Plan, progress: u64) -> Settings
     }
 }
 
-// How many nodes a set has.
-fn size(set: u64) -> u64
-    ensures { (result ≡ ones set) × (result ≤ set_bits) }
-{
-    u64::count_ones(set) as u64
-}
-
-// Round k: prepare, flood, process.
-fn run_round(
-    graph: &[u64; MAX_NODES],
-    plan: Plan,
-    k: u64,
-    x: Run,
-    queue: &mut [u64; QUEUE_SIZE],
-    stream: &mut [u32; STREAM_SIZE],
-    states: &mut [u64],
-    history: &mut [u64; HISTORY_SIZE],
-    snapshots: &mut [u64],
-) -> Played
-    requires { CanPlay graph.now plan k x (workspace queue.old stream.old states.old history.old snapshots.old) }
-    ensures { Plays graph.now plan k x
-        (workspace queue.old stream.old states.old history.old snapshots.old)
-        result (workspace queue.new stream.new states.new history.new snapshots.new) }
-{
-    let n = plan.nodes;
-    let config = plan.config;
-    let initiator = NodeId((k % (n as u64)) as usize);
-    let flood = x.flood;
-    let slot = flood.slot;
-    let before = x.carry;
-    let proposals = config.num_proposals;
-    let prepared = prepare_round(before, states, history, n, proposals, initiator, slot);
-    let packet = prepared.packet;
-    let slots = config.round_slots;
-    let longest = length_limit(slots, plan.diameter as u64, config.flood_repeats);
-    let settings = settings_of(plan, x.progress);
-    let round = flood_identical_round(
-        settings, graph, longest, initiator, flood, queue, stream, snapshots,
-    );
-    let after = round.flood;
-    let part = round.part;
-    let free = after.slot;
-    let between = prepared.carry;
-    let carry = process_round(between, states, history, n, packet, free, part);
-    let run = Run {
-        flood: after,
-        carry,
-        took_part: x.took_part + size(part),
-        progress: x.progress,
-    };
-    let seen = SeenRound { packet, part };
-    Played { run, round: seen }
-}
-
-// The end after round k, or 0.
-fn end_after(proposals: u64, diameter: u64, complete: bool, records: u64, k: u64) -> u64
+// The end after round k, if one has come.
+fn end_after(proposals: u64, diameter: u64, complete: bool, records: u64, k: u64) -> Option<End>
     requires { (proposals ≤ max_terms) × (diameter ≤ max_nodes) }
-    ensures { result ≡ cond complete 1
+    ensures { end_number result ≡ cond complete 1
         (cond (eqb records proposals && ltb (proposals + rounds_per_link * diameter) k) 2 (cond (ltb (proposals + extra_rounds) k) 3 0)) }
 {
-    let recorded = (records == proposals) & (proposals + ROUNDS_PER_LINK * diameter < k);
     if complete {
-        return 1;
+        Some(End::LogsComplete)
+    } else if records == proposals && proposals + ROUNDS_PER_LINK * diameter < k {
+        Some(End::AllRecorded)
+    } else if proposals + EXTRA_ROUNDS < k {
+        Some(End::RoundLimit)
+    } else {
+        None
     }
-    if recorded {
-        return 2;
-    }
-    if proposals + EXTRA_ROUNDS < k { 3 } else { 0 }
 }
 
-// Round k, how far the logs are after it, and its end.
-pub fn next_round(
-    graph: &[u64; MAX_NODES],
-    plan: Plan,
-    k: u64,
-    x: Run,
-    queue: &mut [u64; QUEUE_SIZE],
-    stream: &mut [u32; STREAM_SIZE],
-    states: &mut [u64],
-    history: &mut [u64; HISTORY_SIZE],
-    snapshots: &mut [u64],
-) -> Next
-    requires { CanPlay graph.now plan k x (workspace queue.old stream.old states.old history.old snapshots.old) }
-    ensures { MovesOn graph.now plan k x
-        (workspace queue.old stream.old states.old history.old snapshots.old)
-        result (workspace queue.new stream.new states.new history.new snapshots.new) }
-{
-    let proposals = plan.config.num_proposals;
-    let played = run_round(graph, plan, k, x, queue, stream, states, history, snapshots);
-    let mut run = played.run;
-    let seen = survey(states, plan.nodes, proposals as usize);
-    run.progress = seen.shortest;
-    let records = run.carry.recorded.count;
-    let ended = end_after(proposals, plan.diameter as u64, seen.complete, records, k);
-    let round = played.round;
-    Next { run, round, ended }
-}
-
-// Rounds up to an end, at most so many. A round starts only below the slot limit.
-fn play_rounds(
-    graph: &[u64; MAX_NODES],
-    plan: Plan,
-    most: u64,
-    queue: &mut [u64; QUEUE_SIZE],
-    stream: &mut [u32; STREAM_SIZE],
-    states: &mut [u64],
-    history: &mut [u64; HISTORY_SIZE],
-    snapshots: &mut [u64],
-) -> Stopped
-    requires { CanGo graph.now plan most (workspace queue.old stream.old states.old history.old snapshots.old) }
-    ensures { Goes graph.now plan most result snapshots.old
-        (workspace queue.new stream.new states.new history.new snapshots.new)
-        × (result.run.flood.first_stored ≡ 0) }
-{
-    let config = plan.config;
-    let mut x = new_run(plan.nodes);
-    let mut k = 0u64;
-    while k < most {
-        if config.max_slots <= x.flood.slot.0 {
-            return Stopped {
-                run: x,
-                rounds: k,
-                last: LastRound::None,
-                ended: 4,
-            };
-        }
-        let next = next_round(graph, plan, k, x, queue, stream, states, history, snapshots);
-        x = next.run;
-        let end = next.ended;
-        k += 1;
-        if k == most {
-            let round = next.round;
-            return Stopped {
-                run: x,
-                rounds: k,
-                last: LastRound::Of(round),
-                ended: end,
-            };
-        }
-        if end != 0 {
-            return Stopped {
-                run: x,
-                rounds: k,
-                last: LastRound::None,
-                ended: end,
-            };
+impl Workspace<'_> {
+    // Round k: prepare, flood, process.
+    fn run_round(&mut self, plan: &Plan, k: u64, x: Run) -> Played
+        requires { CanPlay plan.now k x (contents self.old) }
+        ensures plays { Plays plan.now k x (contents self.old) result (contents self.new) }
+        ensures tables { SameTables self.old self.new }
+    {
+        let n = plan.network.graph.nodes;
+        let config = plan.config;
+        let proposals = config.num_proposals;
+        let initiator = NodeId((k % (n as u64)) as usize);
+        let slot = x.flood.slot;
+        let prepared = prepare_round(
+            x.carry,
+            self.states,
+            self.history,
+            n,
+            proposals,
+            initiator,
+            slot,
+        );
+        let packet = prepared.packet;
+        let slots = config.round_slots;
+        let longest = length_limit(slots, plan.network.diameter as u64, config.flood_repeats);
+        let settings = settings_of(plan, x.progress);
+        let round = flood_identical_round(
+            settings,
+            &plan.network.graph.rows,
+            longest,
+            initiator,
+            x.flood,
+            &mut self.queue,
+            &mut self.stream,
+            self.snapshots,
+        );
+        let flood = round.flood;
+        let part = round.part;
+        let between = prepared.carry;
+        let carry = process_round(
+            between,
+            self.states,
+            self.history,
+            n,
+            packet,
+            flood.slot,
+            part,
+        );
+        let run = Run {
+            flood,
+            carry,
+            took_part: x.took_part + part.count_ones() as u64,
+            progress: x.progress,
+        };
+        Played {
+            run,
+            round: SeenRound { packet, part },
         }
     }
-    Stopped {
-        run: x,
-        rounds: k,
-        last: LastRound::None,
-        ended: 0,
+
+    // How far the logs of the first n nodes are.
+    fn surveyed(&self, n: usize, proposals: usize) -> Surveyed
+        requires { CanSurvey n proposals self.now.states.now }
+        ensures { Surveys n proposals self.now.states.now result }
+    {
+        survey(self.states, n, proposals)
+    }
+
+    // Round k, how far the logs are after it, and its end.
+    pub fn next_round(&mut self, plan: &Plan, k: u64, x: Run) -> Next
+        requires { CanPlay plan.now k x (contents self.old) }
+        ensures moves { MovesOn plan.now k x (contents self.old) result (contents self.new) }
+        ensures tables { SameTables self.old self.new }
+    {
+        let proposals = plan.config.num_proposals;
+        let Played { mut run, round } = self.run_round(plan, k, x);
+        let seen = self.surveyed(plan.network.graph.nodes, proposals as usize);
+        run.progress = seen.shortest;
+        let records = run.carry.recorded.count;
+        let ended = end_after(
+            proposals,
+            plan.network.diameter as u64,
+            seen.complete,
+            records,
+            k,
+        );
+        Next { run, round, ended }
+    }
+
+    // Rounds up to an end, at most so many. A round starts only below the slot limit.
+    fn play_rounds(&mut self, plan: &Plan, most: u64) -> Stopped
+        requires { CanGo plan.now most (contents self.old) }
+        ensures goes { Goes plan.now most result self.old.snapshots.now (contents self.new) }
+        ensures all_stored { result.run.flood.first_stored ≡ 0 }
+        ensures tables { SameTables self.old self.new }
+    {
+        let mut x = new_run(plan.network.graph.nodes);
+        // By the round's number, which the round is played for.
+        for k in 0..most {
+            if plan.config.max_slots <= x.flood.slot.0 {
+                return Stopped {
+                    run: x,
+                    rounds: k,
+                    last: None,
+                    ended: Some(End::SlotLimit),
+                };
+            }
+            let next = self.next_round(plan, k, x);
+            x = next.run;
+            let ended = next.ended;
+            let rounds = k + 1;
+            if ended.is_some() || rounds == most {
+                return Stopped {
+                    run: x,
+                    rounds,
+                    last: (rounds == most).then_some(next.round),
+                    ended,
+                };
+            }
+        }
+        Stopped {
+            run: x,
+            rounds: most,
+            last: None,
+            ended: None,
+        }
     }
 }
 
 // Plays at most so many rounds, over Paxos states and a history that are blank.
 pub fn play(
-    graph: &[u64; MAX_NODES],
-    plan: Plan,
+    plan: &Plan,
     most: u64,
-    states: &mut [u64],
-    history: &mut [u64; HISTORY_SIZE],
+    states: &mut [PaxosState],
+    history: &mut History,
     snapshots: &mut [u64],
 ) -> Stopped
-    requires { CanStart graph.now plan most states.old history.old }
-    ensures { Stops graph.now plan most result snapshots.old states.new history.new snapshots.new }
+    requires { CanStart plan.now most states.old history.old }
+    ensures { Stops plan.now most result snapshots.old states.new history.new snapshots.new }
 {
-    let mut queue = [0u64; QUEUE_SIZE];
-    let mut stream = begin_draws(plan.config.seed);
-    play_rounds(
-        graph,
-        plan,
-        most,
-        &mut queue,
-        &mut stream,
+    let mut work = Workspace {
+        queue: [0; QUEUE_SIZE],
+        stream: begin_draws(plan.config.seed),
         states,
         history,
         snapshots,
-    )
+    };
+    work.play_rounds(plan, most)
 }

@@ -1,24 +1,17 @@
 // How far the logs are.
-ghost use Rattle.std.specs.Prelude.{◌≡◌, ◌≤◌, min};
+ghost use Rattle.std.specs.Prelude.{◌≡◌, ◌≤◌};
 ghost use Rattle.config.specs.Limits.{max_terms};
 ghost use Rattle.network.specs.Graph.{has, all};
 ghost use Rattle.rounds.specs.Going.{CanSurvey, Surveys};
 
 use network::graph::full_set;
-use network::units::NodeId;
-use protocol::state::{logged_set, place_of};
+use protocol::state::PaxosState;
 
 // The length of the shortest log, and whether all logs hold every proposal.
 #[derive(Clone, Copy)]
 pub struct Surveyed {
     pub shortest: u64,
     pub complete: bool,
-}
-
-fn smaller(a: u64, b: u64) -> u64
-    ensures { result ≡ min a b }
-{
-    if a < b { a } else { b }
 }
 
 // Whether a set holds each term below `proposals`.
@@ -32,22 +25,22 @@ fn logs_all(logged: u64, proposals: usize) -> bool
 
 // Looks at the logs of the first n nodes. A log with the terms of the first is no shorter, so only the others are counted;
 // all logs hold every proposal when their intersection does.
-pub fn survey(states: &[u64], n: usize, proposals: usize) -> Surveyed
+pub fn survey(states: &[PaxosState], n: usize, proposals: usize) -> Surveyed
     requires { CanSurvey n proposals states.now }
     ensures { Surveys n proposals states.now result }
 {
-    let first = logged_set(states, place_of(NodeId(0)));
-    let mut shortest = u64::count_ones(first) as u64;
+    let first = states[0].logged;
+    let mut shortest = first.count_ones();
     let mut common = first;
-    for j in 0..n {
-        let logged = logged_set(states, place_of(NodeId(j)));
+    for state in &states[..n] {
+        let logged = state.logged;
         if logged != first {
-            shortest = smaller(shortest, u64::count_ones(logged) as u64);
+            shortest = shortest.min(logged.count_ones());
         }
-        common = common & logged;
+        common &= logged;
     }
     Surveyed {
-        shortest,
+        shortest: shortest as u64,
         complete: logs_all(common, proposals),
     }
 }

@@ -2,7 +2,7 @@
 use Prim.Native.Nat.{ℕ, ◌≤◌}
 use mathlib.Core.List.{List, ◌++◌, append_assoc}
 use mathlib.Core.Logic.{⊎_elim}
-use mathlib.Core.Option.{Option, none, some}
+use Rattle.std.specs.Prelude.{Option, Some, None, Ok, Err}
 use mathlib.Core.Path.{◌≡◌, refl, sym, ap, ◌∙◌}
 use native.Mathlib.Omega.{arith}
 use borrow.Author.Tests.{le-leb}
@@ -13,7 +13,7 @@ use Rattle.network.proofs.Distances.{diameter_lt}
 use Rattle.network.proofs.Within.{first_no_lem, all_yes}
 use Rattle.metrics.specs.declared.summary.Summary.{Summary}
 use Rattle.config.specs.declared.Config.{Config}
-use Rattle.rules.specs.declared.answer.Answer.TheVariants.{Ran, Refused}
+use Rattle.config.specs.declared.refusal.Refusal.{Refusal}
 use Rattle.rules.specs.Networks.{RowsOrTopology, network_questions}
 use Rattle.rules.specs.Questions.{config_questions, buffer_questions, run_questions, questions_for, refusal_for, run_refusal_for}
 use Rattle.rules.specs.Accepted.{MeasuredGraph, Accepted}
@@ -28,7 +28,7 @@ pub record Roomy (logs records : List ℕ) : Type 0 where
   pub for_records : records_size ≤ length records
 
 -- a graph with a configuration that its questions let pass
-pub accepts : {graph : List ℕ} {n d : ℕ} (c : Config) → MeasuredGraph graph n d → first_no (config_questions c) ≡ none → Accepted (given_as graph n d c)
+pub accepts : {graph : List ℕ} {n d : ℕ} (c : Config) → MeasuredGraph graph n d → first_no (config_questions c) ≡ None → Accepted (given_as graph n d c)
 accepts {graph} {n} {d} c graph_is e =
     let q = config_facts c e in
     record {
@@ -46,73 +46,73 @@ accepts {graph} {n} {d} c graph_is e =
     }
 
 -- what the questions of the network and of the configuration let pass
-pub accepted_for : (q : RowsOrTopology) (c : Config) → refusal_for q c ≡ none → Accepted (given_for q c)
+pub accepted_for : (q : RowsOrTopology) (c : Config) → refusal_for q c ≡ None → Accepted (given_for q c)
 unfolding refusal_for
 accepted_for q c e = let yes = both_none (network_questions q) (config_questions c) e in accepts c (network_measured q yes.0) yes.1
 
-roomy : (logs records : List ℕ) → first_no (buffer_questions (length logs) (length records)) ≡ none → Roomy logs records
+roomy : (logs records : List ℕ) → first_no (buffer_questions (length logs) (length records)) ≡ None → Roomy logs records
 roomy logs records e = let long = buffer_facts (length logs) (length records) e in record { for_logs = long.0; for_records = long.1 }
 
 -- a run that is not refused
-pub ran_so : (o : Option ℕ) (g : Given) (logs records snapshots : List ℕ) (s : Summary) → (outcome_of o g logs records snapshots).answer ≡ Ran s
-    → (o ≡ none) × (summary_of g (run g) ≡ s)
+pub ran_so : (o : Option Refusal) (g : Given) (logs records snapshots : List ℕ) (s : Summary) → (outcome_of o g logs records snapshots).answer ≡ Ok s
+    → (o ≡ None) × (summary_of g (run g) ≡ s)
 unfolding ran_with
-ran_so none g logs records snapshots s e = (refl, cc)
-ran_so (some k) g logs records snapshots s e = absurd (let z : ◌≡◌ {A = ℕ} 0 1 = cc in omega arith)
+ran_so None g logs records snapshots s e = (refl, cc)
+ran_so (Some k) g logs records snapshots s e = absurd (let z : ◌≡◌ {A = ℕ} 0 1 = cc in omega arith)
 
 -- a run that is refused
-pub refused_so : (o : Option ℕ) (g : Given) (logs records snapshots : List ℕ) (k : ℕ) → (outcome_of o g logs records snapshots).answer ≡ Refused k → o ≡ some k
+pub refused_so : (o : Option Refusal) (g : Given) (logs records snapshots : List ℕ) (k : Refusal) → (outcome_of o g logs records snapshots).answer ≡ Err k → o ≡ Some k
 unfolding ran_with
-refused_so none g logs records snapshots k e = absurd (let z : ◌≡◌ {A = ℕ} 0 1 = cc in omega arith)
-refused_so (some j) g logs records snapshots k e = cc
+refused_so None g logs records snapshots k e = absurd (let z : ◌≡◌ {A = ℕ} 0 1 = cc in omega arith)
+refused_so (Some j) g logs records snapshots k e = cc
 
 -- An accepted run: every question is answered "yes", and the outcome and the summary are those of the run.
 pub record Admitted (q : RowsOrTopology) (c : Config) (logs records snapshots : List ℕ) (s : Summary) : Type 0 where
-  pub passes : refusal_for q c ≡ none
+  pub passes : refusal_for q c ≡ None
   pub accepted : Accepted (given_for q c)
   pub roomy : Roomy logs records
   pub ran : outcome_for q c logs records snapshots ≡ ran_with (given_for q c) logs records snapshots
   pub summary : summary_of (given_for q c) (run (given_for q c)) ≡ s
 
-pub admitted : (q : RowsOrTopology) (c : Config) (logs records snapshots : List ℕ) (s : Summary) → (outcome_for q c logs records snapshots).answer ≡ Ran s → Admitted q c logs records snapshots s
+pub admitted : (q : RowsOrTopology) (c : Config) (logs records snapshots : List ℕ) (s : Summary) → (outcome_for q c logs records snapshots).answer ≡ Ok s → Admitted q c logs records snapshots s
 unfolding outcome_for run_refusal_for
 admitted q c logs records snapshots s e =
     let g : Given = given_for q c in
     let r = ran_so (run_refusal_for q c (length logs) (length records)) g logs records snapshots s e in
     let yes = both_none (network_questions q) (run_questions c (length logs) (length records)) r.0 in
     let pass = both_none (config_questions c) (buffer_questions (length logs) (length records)) yes.1 in
-    let passes : refusal_for q c ≡ none = network_yes q c yes.0 ∙ pass.0 in
+    let passes : refusal_for q c ≡ None = network_yes q c yes.0 ∙ pass.0 in
     record {
       passes = passes;
       accepted = accepted_for q c passes;
       roomy = roomy logs records pass.1;
-      ran = ap (λ (o : Option ℕ). outcome_of o g logs records snapshots) r.0;
+      ran = ap (λ (o : Option Refusal). outcome_of o g logs records snapshots) r.0;
       summary = r.1;
     }
 
 -- what they let pass is run, if the buffers are long enough
-pub admits : (q : RowsOrTopology) (c : Config) (logs records snapshots : List ℕ) → refusal_for q c ≡ none → Roomy logs records
-    → (outcome_for q c logs records snapshots).answer ≡ Ran (summary_of (given_for q c) (run (given_for q c)))
+pub admits : (q : RowsOrTopology) (c : Config) (logs records snapshots : List ℕ) → refusal_for q c ≡ None → Roomy logs records
+    → (outcome_for q c logs records snapshots).answer ≡ Ok (summary_of (given_for q c) (run (given_for q c)))
 unfolding outcome_for refusal_for run_refusal_for ran_with
 admits q c logs records snapshots e room =
     let yes = both_none (network_questions q) (config_questions c) e in
     let rest = buffer_questions (length logs) (length records) in
-    let long : first_no rest ≡ none = rw (le-leb log_size (length logs) room.for_logs, le-leb records_size (length records) room.for_records) in
-    ap (λ (o : Option ℕ). (outcome_of o (given_for q c) logs records snapshots).answer)
+    let long : first_no rest ≡ None = rw (le-leb log_size (length logs) room.for_logs, le-leb records_size (length records) room.for_records) in
+    ap (λ (o : Option Refusal). (outcome_of o (given_for q c) logs records snapshots).answer)
     (all_yes (network_questions q) (config_questions c ++ rest) yes.0 ∙ all_yes (config_questions c) rest yes.1 ∙ long)
 
 -- what they refuse is refused by the same number, whatever its buffers are
-pub refuses : (q : RowsOrTopology) (c : Config) (logs records snapshots : List ℕ) (question : ℕ) → refusal_for q c ≡ some question
-    → (outcome_for q c logs records snapshots).answer ≡ Refused question
+pub refuses : (q : RowsOrTopology) (c : Config) (logs records snapshots : List ℕ) (question : Refusal) → refusal_for q c ≡ Some question
+    → (outcome_for q c logs records snapshots).answer ≡ Err question
 unfolding outcome_for refusal_for run_refusal_for
 refuses q c logs records snapshots question e =
     let rest = buffer_questions (length logs) (length records) in
-    ap (λ (o : Option ℕ). (outcome_of o (given_for q c) logs records snapshots).answer)
+    ap (λ (o : Option Refusal). (outcome_of o (given_for q c) logs records snapshots).answer)
     (ap first_no (sym (append_assoc (network_questions q) (config_questions c) rest)) ∙ first_no_lem (questions_for q c) rest question e)
 
 -- a run that is refused, and not for its buffers, is refused by them
-pub refused_for : (q : RowsOrTopology) (c : Config) (logs records snapshots : List ℕ) (question : ℕ)
-    → (outcome_for q c logs records snapshots).answer ≡ Refused question → (question ≡ 10 → ⊥) → refusal_for q c ≡ some question
+pub refused_for : (q : RowsOrTopology) (c : Config) (logs records snapshots : List ℕ) (question : Refusal)
+    → (outcome_for q c logs records snapshots).answer ≡ Err question → (question ≡ Refusal.ShortBuffers → ⊥) → refusal_for q c ≡ Some question
 unfolding outcome_for run_refusal_for
 refused_for q c logs records snapshots question e other =
     ⊎_elim (network_no q c question)

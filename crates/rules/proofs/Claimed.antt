@@ -1,21 +1,19 @@
 -- A node's state in a run that loses nothing: the terms below c are logged, those from c to below m are pending. Assumes nothing.
+use Rattle.std.specs.Prelude.{Option, Some, None}
 use Prim.Native.Nat.{ℕ, zero, suc, ◌+◌, ◌-◌, ◌<◌, ◌≤◌, max}
 use mathlib.Core.Bool.{Bool, true, false, cond, ◌&&◌, ◌||◌}
 use mathlib.Core.List.{List, [], ◌∷◌, ◌++◌}
 use mathlib.Core.Logic.{◌⊎◌, inl, inr, ⊎_elim}
-use mathlib.Core.Option.{Option, none, some}
 use mathlib.Core.Path.{◌≡◌, refl, sym, ap, ap₂, ◌∙◌, subst}
 use native.Mathlib.Omega.{arith}
 use borrow.Author.Tests.{eqb-true, eqb-false, lt-ltb, le-ltb, ltb-true, ltb-false, le-leb, lt-leb}
 use lib.Dec.{leb, ltb, eqb}
-use Rattle.phy.specs.declared.packet.LastAccepted.{LastAccepted}
-use Rattle.protocol.specs.declared.paxos.Gap.{Gap}
+use Rattle.network.specs.declared.units.Term.{Term}
 use Rattle.protocol.specs.Paxos.{LogEntry, Pending, State, union, logged, is_some, held, updated, hold, voted, merge_votes_up_to, majority, size, quorum, greatest_quorum, log_entry, raise, after_last, commit_term, commit_below, commit_to, gap_in, detect_gap}
-use Rattle.protocol.specs.View.{last_of}
 use Rattle.protocol.specs.Growth.{data_for}
 use Rattle.protocol.proofs.Places.{either, same_or}
 use Rattle.protocol.proofs.Logs.{logged_append}
-use Rattle.protocol.proofs.Frame.{state_is}
+use Rattle.protocol.proofs.Kept.{state_is}
 
 -- the log of the terms below c, each with its data
 abbrev pub entry_of : ℕ → LogEntry
@@ -27,10 +25,15 @@ entries (suc c) = entries c ++ (entry_of c ∷ [])
 
 -- term t with the votes v
 abbrev pub waiting : ℕ → ℕ → Option Pending
-waiting t v = some (record { votes = v; «data» = data_for t })
+waiting t v = Some (record { votes = v; «data» = data_for t })
 
 unfoldable pub waits : ℕ → ℕ → (ℕ → ℕ) → ℕ → Option Pending
-waits c m v t = cond (leb c t && ltb t m) (waiting t (v t)) none
+waits c m v t = cond (leb c t && ltb t m) (waiting t (v t)) None
+
+-- last accepted where the terms below c are
+abbrev pub last_of : ℕ → Option Term
+last_of zero = None
+last_of (suc t) = Some (record { 0 = t })
 
 -- the terms below c are logged, those from c to below m are pending, term t with the votes v t
 abbrev pub state_with : ℕ → ℕ → (ℕ → ℕ) → State
@@ -43,20 +46,20 @@ module _ (c m : ℕ) (v : ℕ → ℕ) (t : ℕ) where
   unfolding waits
   waits_in h l = rw (le-leb c t h, lt-ltb t m l)
 
-  pub waits_low : t < c → waits c m v t ≡ none
+  pub waits_low : t < c → waits c m v t ≡ None
   unfolding waits
   waits_low h = rw (lt-leb c t h)
 
-  pub waits_high : m ≤ t → waits c m v t ≡ none
+  pub waits_high : m ≤ t → waits c m v t ≡ None
   unfolding waits
   waits_high h = rw (le-ltb t m h) (go (leb c t))
     where
-      go : (b : Bool) → cond (b && false) (waiting t (v t)) none ≡ none
+      go : (b : Bool) → cond (b && false) (waiting t (v t)) None ≡ None
       go true = refl
       go false = refl
 
   -- the three places that a term can have
-  pub place : (P : Option Pending → Type 0) → (t < c → P none) → (c ≤ t → t < m → P (waiting t (v t))) → (m ≤ t → P none) → P (waits c m v t)
+  pub place : (P : Option Pending → Type 0) → (t < c → P None) → (c ≤ t → t < m → P (waiting t (v t))) → (m ≤ t → P None) → P (waits c m v t)
   place P low mid high =
       ⊎_elim (λ e. let h = ltb-true t c e in rw (waits_low h) (low h))
       (λ e. let h = ltb-false t c e in ⊎_elim (λ f. let l = ltb-true t m f in rw (waits_in h l) (mid h l)) (λ f. let l = ltb-false t m f in rw (waits_high l) (high l)) (either (ltb t m)))
@@ -107,12 +110,12 @@ module _ (c m : ℕ) (v : ℕ → ℕ) where
 pub commit_one : (c m : ℕ) (v : ℕ → ℕ) → c < m → commit_term c (state_with c m v) ≡ state_with (suc c) m v
 unfolding commit_term entries
 commit_one c m v h =
-    ap (λ (b : Bool). cond b (state_with c m v) (record { log = entries c ++ log_entry c (waits c m v c); pending = updated c none (waits c m v); last = raise c (last_of c) })) (entry_free c c (omega arith))
+    ap (λ (b : Bool). cond b (state_with c m v) (record { log = entries c ++ log_entry c (waits c m v c); pending = updated c None (waits c m v); last = raise c (last_of c) })) (entry_free c c (omega arith))
     ∙ state_is (ap (λ (o : Option Pending). entries c ++ log_entry c o) (waits_in c m v c (omega arith) h)) left (raised c)
   where
-    left : (t : ℕ) → updated c none (waits c m v) t ≡ waits (suc c) m v t
+    left : (t : ℕ) → updated c None (waits c m v) t ≡ waits (suc c) m v t
     left t =
-        same_or (λ (b : Bool). cond b none (waits c m v t) ≡ waits (suc c) m v t) t c (λ q. sym (waits_low (suc c) m v t (omega arith)))
+        same_or (λ (b : Bool). cond b None (waits c m v t) ≡ waits (suc c) m v t) t c (λ q. sym (waits_low (suc c) m v t (omega arith)))
         (λ q.
         let ne : t ≡ c → ⊥ = eqb-false t c q in
         place c m v t (λ (o : Option Pending). o ≡ waits (suc c) m v t) (λ l. sym (waits_low (suc c) m v t (omega arith)))
@@ -120,7 +123,7 @@ commit_one c m v h =
 
     raised : (c : ℕ) → raise c (last_of c) ≡ last_of (suc c)
     raised zero = refl
-    raised (suc c) = ap (λ (x : ℕ). LastAccepted.At (record { 0 = x })) (omega arith)
+    raised (suc c) = ap (λ (x : ℕ). Some (record { 0 = x })) (omega arith)
 
 commit_old : (j c m : ℕ) (v : ℕ → ℕ) → j < c → commit_term j (state_with c m v) ≡ state_with c m v
 unfolding commit_term
@@ -152,16 +155,16 @@ commit_last (suc d) c m v l h = commit_below_lem (suc d) c m v h ∙ ap (λ (x :
 
 -- ---- no gap
 
-no_gap_in : (k t m c : ℕ) (v : ℕ → ℕ) → c ≤ t → t + k ≤ m → gap_in k t (state_with c m v) ≡ Gap.None
+no_gap_in : (k t m c : ℕ) (v : ℕ → ℕ) → c ≤ t → t + k ≤ m → gap_in k t (state_with c m v) ≡ None
 unfolding gap_in
 no_gap_in zero t m c v l h = refl
-no_gap_in (suc k) t m c v l h = ap (λ (b : Bool). cond b (gap_in k (suc t) (state_with c m v)) (Gap.At (record { 0 = t }))) (is_held c m v t l (omega arith)) ∙ no_gap_in k (suc t) m c v (omega arith) (omega arith)
+no_gap_in (suc k) t m c v l h = ap (λ (b : Bool). cond b (gap_in k (suc t) (state_with c m v)) (Some (record { 0 = t }))) (is_held c m v t l (omega arith)) ∙ no_gap_in k (suc t) m c v (omega arith) (omega arith)
 
-pub no_gap : (c m : ℕ) (v : ℕ → ℕ) → c ≤ m → detect_gap m (state_with c m v) ≡ Gap.None
+pub no_gap : (c m : ℕ) (v : ℕ → ℕ) → c ≤ m → detect_gap m (state_with c m v) ≡ None
 unfolding detect_gap
 no_gap c m v h = go c h
   where
-    go : (d : ℕ) → d ≤ m → gap_in (m - after_last (last_of d)) (after_last (last_of d)) (state_with d m v) ≡ Gap.None
+    go : (d : ℕ) → d ≤ m → gap_in (m - after_last (last_of d)) (after_last (last_of d)) (state_with d m v) ≡ None
     go zero l = no_gap_in (m - 0) 0 m 0 v (omega arith) (omega arith)
     go (suc d) l = no_gap_in (m - (d + 1)) (d + 1) m (suc d) v (omega arith) (omega arith)
 
@@ -195,28 +198,28 @@ module _ (c m : ℕ) (v : ℕ → ℕ) where
   -- ---- quorums
 
   -- the greatest pending quorum below k when only term t has one
-  pub quorum_none : (n k : ℕ) → ((t : ℕ) → c ≤ t → t < m → size (v t) < majority n) → greatest_quorum k n (state_with c m v) ≡ LastAccepted.None
+  pub quorum_none : (n k : ℕ) → ((t : ℕ) → c ≤ t → t < m → size (v t) < majority n) → greatest_quorum k n (state_with c m v) ≡ None
   unfolding greatest_quorum
   quorum_none n zero few = refl
   quorum_none n (suc k) few =
-      place c m v k (λ (o : Option Pending). cond (quorum n o) (LastAccepted.At (record { 0 = k })) (greatest_quorum k n (state_with c m v)) ≡ LastAccepted.None)
+      place c m v k (λ (o : Option Pending). cond (quorum n o) (Some (record { 0 = k })) (greatest_quorum k n (state_with c m v)) ≡ None)
       (λ l. quorum_none n k few) (λ a b. rw (lt-leb (majority n) (size (v k)) (few k a b)) (quorum_none n k few)) (λ l. quorum_none n k few)
 
   pub quorum_one : (n k q : ℕ) → c ≤ q → q < m → q < k → majority n ≤ size (v q) → ((t : ℕ) → q < t → t < m → size (v t) < majority n)
-      → greatest_quorum k n (state_with c m v) ≡ LastAccepted.At (record { 0 = q })
+      → greatest_quorum k n (state_with c m v) ≡ Some (record { 0 = q })
   unfolding greatest_quorum
   quorum_one n zero q a b l many few = absurd (omega arith)
   quorum_one n (suc k) q a b l many few =
       ⊎_elim (λ e. is (eqb-true q k e)) (λ e. on (quorum_one n k q a b) (eqb-false q k e)) (either (eqb q k))
     where
       P : Option Pending → Type 0
-      P o = cond (quorum n o) (LastAccepted.At (record { 0 = k })) (greatest_quorum k n (state_with c m v)) ≡ LastAccepted.At (record { 0 = q })
+      P o = cond (quorum n o) (Some (record { 0 = k })) (greatest_quorum k n (state_with c m v)) ≡ Some (record { 0 = q })
 
       is : q ≡ k → P (waits c m v k)
-      is e = subst (λ (x : ℕ). cond (quorum n (waits c m v x)) (LastAccepted.At (record { 0 = x })) (greatest_quorum x n (state_with c m v)) ≡ LastAccepted.At (record { 0 = q })) e
+      is e = subst (λ (x : ℕ). cond (quorum n (waits c m v x)) (Some (record { 0 = x })) (greatest_quorum x n (state_with c m v)) ≡ Some (record { 0 = q })) e
           (rw (waits_in c m v q a b, le-leb (majority n) (size (v q)) many))
 
-      on : (q < k → majority n ≤ size (v q) → ((t : ℕ) → q < t → t < m → size (v t) < majority n) → greatest_quorum k n (state_with c m v) ≡ LastAccepted.At (record { 0 = q })) → (q ≡ k → ⊥) → P (waits c m v k)
+      on : (q < k → majority n ≤ size (v q) → ((t : ℕ) → q < t → t < m → size (v t) < majority n) → greatest_quorum k n (state_with c m v) ≡ Some (record { 0 = q })) → (q ≡ k → ⊥) → P (waits c m v k)
       on ih ne =
           let less : q < k = omega (arith, ne) in
           let done = ih less many few in

@@ -1,4 +1,5 @@
 -- In every round of a run the covered nodes are those that took part. Assumes nothing.
+use Rattle.std.specs.Prelude.{Option, Some, None}
 use Prim.Native.Nat.{ℕ, suc, ◌+◌, ◌-◌, ◌%◌, ◌≤◌, ◌<◌}
 use mathlib.Core.Bool.{Bool, true, false, cond}
 use mathlib.Core.List.{List}
@@ -15,7 +16,6 @@ use Rattle.config.specs.Limits.{most_rounds}
 use Rattle.network.specs.Graph.{has}
 use Rattle.network.proofs.Sets.{two}
 use Rattle.phy.specs.declared.node.Node.{Node}
-use Rattle.phy.specs.declared.node.Payload.{Payload}
 use Rattle.phy.specs.declared.packet.Packet.{Packet}
 use Rattle.phy.specs.Node.{new}
 use Rattle.phy.specs.Packets.{same_packet, payload_is}
@@ -42,9 +42,9 @@ record KeptFrom (n k j : ℕ) (q : Packet) : Type 0 where
   since : (m : ℕ) → round < m → m < k → initiator_of n m ≡ j → ⊥
 
 -- what node j may hold after k rounds
-abbrev held_from : ℕ → ℕ → ℕ → Payload → Type 0
-held_from n k j Payload.None = Unit {0}
-held_from n k j (Payload.Of q) = KeptFrom n k j q
+abbrev held_from : ℕ → ℕ → ℕ → Option Packet → Type 0
+held_from n k j None = Unit {0}
+held_from n k j (Some q) = KeptFrom n k j q
 
 -- what all n nodes may hold after k rounds
 abbrev HeldPackets : ℕ → ℕ → List Node → Type 0
@@ -85,10 +85,10 @@ unfolding prepare_round initiator_turn announce
 sent_by g k r = refl
 
 -- so a packet that another node has kept is not that of round k
-kept_other : (n k j : ℕ) (packet : Packet) (old : Payload) → packet.sender.0 ≡ initiator_of n k → j < n → (j ≡ initiator_of n k → ⊥) → held_from n k j old
+kept_other : (n k j : ℕ) (packet : Packet) (old : Option Packet) → packet.sender.0 ≡ initiator_of n k → j < n → (j ≡ initiator_of n k → ⊥) → held_from n k j old
     → payload_is packet old ≡ false
-kept_other n k j packet Payload.None from h ne held = refl
-kept_other n k j packet (Payload.Of q) from h ne held =
+kept_other n k j packet None from h ne held = refl
+kept_other n k j packet (Some q) from h ne held =
     ⊎_elim
     (λ e.
     let same : held.round % n ≡ k % n = sym held.sender ∙ ap (λ (p : Packet). p.sender.0) (sym (same_packet_equal packet q e)) ∙ from in
@@ -98,11 +98,11 @@ kept_other n k j packet (Payload.Of q) from h ne held =
     (two (same_packet packet q))
 
 -- what node j holds a round later; b says whether it took part
-kept_on : (n k j : ℕ) (packet : Packet) (old : Payload) (b : Bool) → packet.sender.0 ≡ initiator_of n k → (b ≡ false → j ≡ initiator_of n k → ⊥) → held_from n k j old
-    → held_from n (k + 1) j (cond b (Payload.Of packet) old)
+kept_on : (n k j : ℕ) (packet : Packet) (old : Option Packet) (b : Bool) → packet.sender.0 ≡ initiator_of n k → (b ≡ false → j ≡ initiator_of n k → ⊥) → held_from n k j old
+    → held_from n (k + 1) j (cond b (Some packet) old)
 kept_on n k j packet old true from ne held = record { round = k; past = omega arith; sender = from; since = λ m l u. absurd (omega arith) }
-kept_on n k j packet Payload.None false from ne held = tt
-kept_on n k j packet (Payload.Of q) false from ne held =
+kept_on n k j packet None false from ne held = tt
+kept_on n k j packet (Some q) false from ne held =
     record {
       round = held.round;
       past = omega (arith, held.past);

@@ -1,4 +1,5 @@
 -- What the nodes share in a run that loses nothing, and one round of it. S k is the first slot of round k. Assumes nothing.
+use Rattle.std.specs.Prelude.{None}
 use Prim.Native.Nat.{ℕ, zero, suc, ◌+◌, ◌-◌, ◌/◌, ◌%◌, ◌<◌, ◌≤◌, min}
 use mathlib.Core.Bool.{Bool, true, false, cond, ◌||◌}
 use mathlib.Core.List.{List, [], ◌∷◌, ◌++◌, append-nil}
@@ -13,14 +14,12 @@ use lib.ListN.{get_or, set, length-set}
 use Rattle.network.specs.Graph.{has}
 use Rattle.random.specs.Table.{tabulate}
 use Rattle.random.proofs.Tables.{length_tabulate, get_d_tabulate, is_tabulate, tabulate_cong, tabulate_snoc}
-use Rattle.phy.specs.declared.packet.Piggyback.{Piggyback}
 use Rattle.protocol.specs.Paxos.{LogEntry, State, empty, logged, newly_below, newly_to}
-use Rattle.protocol.specs.View.{last_of}
 use Rattle.protocol.specs.Turns.{Initiated, Participated, counter_after, initiator_turn, participant_turn}
 use Rattle.protocol.proofs.Places.{either, get_d_set}
 use Rattle.protocol.proofs.Commit.{newly_skip}
 use Rattle.pipeline.specs.Round.{one_nack, Record, Shared, Prepared, state_of, latest, one_piggyback, recorded, record_all, prepare_round, take_turn, turns, process_round}
-use Rattle.rules.proofs.Claimed.{entries, is_logged, entry_free}
+use Rattle.rules.proofs.Claimed.{last_of, entries, is_logged, entry_free}
 use Rattle.rules.proofs.ExactTurns.{Fits, claimed, announced, proposes_at, sent, initiated, participated, participated_own}
 
 -- ---- lists by their places
@@ -104,7 +103,7 @@ shared_at S n P k =
       counter = min k P;
       starts = tabulate (min k P) S;
       records = tabulate (k - n / 2) (exact_record S n);
-      piggyback = Piggyback.None;
+      piggyback = None;
       nacks = 0;
       piggybacks = 0;
     }
@@ -117,7 +116,7 @@ in_round S n P k states =
       counter = min (suc k) P;
       starts = tabulate (min (suc k) P) S;
       records = tabulate (suc k - n / 2) (exact_record S n);
-      piggyback = Piggyback.None;
+      piggyback = None;
       nacks = 0;
       piggybacks = 0;
     }
@@ -185,14 +184,14 @@ module _ (S : ℕ → ℕ) {n P k : ℕ} (f : Fits n P k) where
   pub prepared : prepare_round n P (k % n) (S k) (shared_at S n P k) ≡ record { shared = in_round S n P k (begun_at n P k); packet = sent n P k }
   unfolding prepare_round shared_at sent
   prepared =
-      ap after (ap (initiator_turn (k % n) n (min k P) (proposes_at P k) Piggyback.None) (get_d_tabulate n (claimed n P k) (k % n) empty initiator_lt) ∙ initiated f)
+      ap after (ap (initiator_turn (k % n) n (min k P) (proposes_at P k) None) (get_d_tabulate n (claimed n P k) (k % n) empty initiator_lt) ∙ initiated f)
       ∙ (λ d. record {
         shared = record {
           states = set_tabulate n (claimed n P k) (k % n) (announced n P k) empty initiator_lt d;
           counter = counter_next d;
           starts = starts_next d;
           records = (ap (λ (l : List ℕ). record_all l (S k) (newly_to (last_of (suc k - n / 2)) (entries (k - n / 2))) (tabulate (k - n / 2) (exact_record S n))) starts_next ∙ records_next) d;
-          piggyback = Piggyback.None;
+          piggyback = None;
           nacks = 0;
           piggybacks = 0;
         };
@@ -208,7 +207,7 @@ module _ (S : ℕ → ℕ) {n P k : ℕ} (f : Fits n P k) where
               counter = counter_after (proposes_at P k) (min k P);
               starts = starts;
               records = record_all starts (S k) turn.newly (tabulate (k - n / 2) (exact_record S n));
-              piggyback = Piggyback.None;
+              piggyback = None;
               nacks = 0 + one_nack turn.packet.nack_term;
               piggybacks = 0;
             };
@@ -219,11 +218,11 @@ module _ (S : ℕ → ℕ) {n P k : ℕ} (f : Fits n P k) where
 
   -- a node's turn, whichever it is
   turn_at : (m : ℕ) → m < n → (e : ℕ) × (participant_turn m (sent n P k) (begun_at n P k m)
-      ≡ record { state = claimed n P (suc k) m; newly = newly_to (last_of (suc k - n / 2)) (entries e); recovered = Piggyback.None })
+      ≡ record { state = claimed n P (suc k) m; newly = newly_to (last_of (suc k - n / 2)) (entries e); recovered = None })
   turn_at m h = ⊎_elim own other (either (eqb m (k % n)))
     where
       turn_with : State → ℕ → Type 0
-      turn_with s e = participant_turn m (sent n P k) s ≡ record { state = claimed n P (suc k) m; newly = newly_to (last_of (suc k - n / 2)) (entries e); recovered = Piggyback.None }
+      turn_with s e = participant_turn m (sent n P k) s ≡ record { state = claimed n P (suc k) m; newly = newly_to (last_of (suc k - n / 2)) (entries e); recovered = None }
 
       own : eqb m (k % n) ≡ true → (e : ℕ) × turn_with (begun_at n P k m) e
       own q = (suc k - n / 2, rw (q, eqb-true m (k % n) q) (participated_own f))
@@ -241,7 +240,7 @@ module _ (S : ℕ → ℕ) {n P k : ℕ} (f : Fits n P k) where
         counter = min (suc k) P;
         starts = tabulate (min (suc k) P) S;
         records = record_old S n (tabulate (min (suc k) P) S) slot (suc k - n / 2) (entries e.0) d;
-        piggyback = Piggyback.None;
+        piggyback = None;
         nacks = 0;
         piggybacks = 0;
       })
@@ -253,7 +252,7 @@ module _ (S : ℕ → ℕ) {n P k : ℕ} (f : Fits n P k) where
             counter = min (suc k) P;
             starts = tabulate (min (suc k) P) S;
             records = record_all (tabulate (min (suc k) P) S) slot turn.newly (tabulate (suc k - n / 2) (exact_record S n));
-            piggyback = latest turn.recovered Piggyback.None;
+            piggyback = latest turn.recovered None;
             nacks = 0;
             piggybacks = 0 + one_piggyback turn.recovered;
           }
@@ -287,7 +286,7 @@ module _ (S : ℕ → ℕ) {n P k : ℕ} (f : Fits n P k) where
             counter = min (suc k) P;
             starts = tabulate (min (suc k) P) S;
             records = tabulate (suc k - n / 2) (exact_record S n);
-            piggyback = Piggyback.None;
+            piggyback = None;
             nacks = 0;
             piggybacks = 0;
           }
@@ -303,7 +302,7 @@ module _ (S : ℕ → ℕ) {n P k : ℕ} (f : Fits n P k) where
         counter = min (suc k) P;
         starts = tabulate (min (suc k) P) S;
         records = tabulate (suc k - n / 2) (exact_record S n);
-        piggyback = Piggyback.None;
+        piggyback = None;
         nacks = 0;
         piggybacks = 0;
       })

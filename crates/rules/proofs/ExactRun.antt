@@ -11,13 +11,12 @@ use Rattle.random.specs.Table.{tabulate}
 use Rattle.random.proofs.Tables.{is_tabulate}
 use Rattle.network.proofs.Distances.{eccentricity_diameter}
 use Rattle.phy.specs.declared.node.Node.{Node}
-use Rattle.config.specs.declared.RoundSlots.{RoundSlots}
-use Rattle.phy.specs.declared.packet.Piggyback.{Piggyback}
+use Rattle.std.specs.Prelude.{Option, Some, None}
 use Rattle.phy.specs.Round.{Flooded, length_limit, round}
 use Rattle.phy.proofs.Tries.{Even}
 use Rattle.phy.proofs.Lossless.{Lossless, each_took_part, all_took_part, lossless_tries, limit_enough}
 use Rattle.protocol.specs.Paxos.{empty}
-use Rattle.protocol.proofs.Frame.{state_is}
+use Rattle.protocol.proofs.Kept.{state_is}
 use Rattle.phy.specs.Slot.{sum_of}
 use Rattle.pipeline.specs.Round.{Shared, Prepared, initiator_of, prepare_round, process_round}
 use Rattle.rules.specs.Accepted.{Accepted}
@@ -57,7 +56,7 @@ claimed_none n P i =
     rw (c, m) (state_is refl (λ t. sym (waits_high 0 0 (votes_after n 0 i) t (omega arith))) refl)
 
 shared_none : (S : ℕ → ℕ) (n P : ℕ)
-    → record { states = replicate n empty; counter = 0; starts = []; records = []; piggyback = Piggyback.None; nacks = 0; piggybacks = 0 } ≡ shared_at S n P 0
+    → record { states = replicate n empty; counter = 0; starts = []; records = []; piggyback = None; nacks = 0; piggybacks = 0 } ≡ shared_at S n P 0
 unfolding shared_at tabulate
 shared_none S n P =
     let c : 0 - n / 2 ≡ 0 = omega arith in
@@ -68,7 +67,7 @@ shared_none S n P =
       counter = 0;
       starts = [];
       records = [];
-      piggyback = Piggyback.None;
+      piggyback = None;
       nacks = 0;
       piggybacks = 0;
     })
@@ -102,9 +101,9 @@ module _ {g : Given} (a : Accepted g) (w : Suited g) where
   slots_most : (k : ℕ) → slots_in g k ≤ g.diameter + g.repeats
   slots_most k = omega (arith, eccentricity_diameter g.rows g.nodes a.checked (initiator_of g.nodes k) (initiator_lt k), a.measured)
 
-  enough : (slots : RoundSlots) → AbsentOrAtLeast (g.diameter + g.repeats) slots → g.diameter + g.repeats ≤ length_limit slots g.diameter g.repeats
-  enough RoundSlots.Absent h = limit_enough g.diameter g.repeats a.repeats_low
-  enough (RoundSlots.Of slots) h = h
+  enough : (slots : Option ℕ) → AbsentOrAtLeast (g.diameter + g.repeats) slots → g.diameter + g.repeats ≤ length_limit slots g.diameter g.repeats
+  enough None h = limit_enough g.diameter g.repeats a.repeats_low
+  enough (Some slots) h = h
 
   pub below_limit : (k : ℕ) → k < rounds_of g → first_slot g k < g.limit
   below_limit k h = omega (arith, sum_most k (slots_in g) (g.diameter + g.repeats) slots_most, mul-le-mul_right (g.diameter + g.repeats) h, w.limit, a.repeats_low)

@@ -1,28 +1,23 @@
 -- The two turns of a node in round k of a run that loses nothing. Assumes nothing.
+use Rattle.std.specs.Prelude.{Option, None}
 use Prim.Native.Nat.{ℕ, suc, ◌+◌, ◌-◌, ◌/◌, ◌%◌, ◌^◌, ◌<◌, ◌≤◌, min}
 use mathlib.Core.Bool.{Bool, true, false, cond}
 use mathlib.Core.List.{List}
 use mathlib.Core.Logic.{⊎_elim}
-use mathlib.Core.Option.{Option}
 use mathlib.Core.Path.{◌≡◌, refl, sym, ap, ap₂, ◌∙◌}
 use native.Mathlib.Nat.{mod-lt}
 use native.Mathlib.Omega.{arith}
 use borrow.Author.Tests.{lt-ltb, le-ltb, ltb-true, ltb-false}
 use lib.Dec.{ltb}
-use Rattle.phy.specs.declared.packet.Data.{Data}
-use Rattle.phy.specs.declared.packet.Nack.{Nack}
-use Rattle.phy.specs.declared.packet.LastAccepted.{LastAccepted}
-use Rattle.phy.specs.declared.packet.Piggyback.{Piggyback}
+use Rattle.network.specs.declared.units.Term.{Term}
 use Rattle.phy.specs.declared.packet.Packet.{Packet}
-use Rattle.protocol.specs.declared.paxos.Gap.{Gap}
 use Rattle.protocol.specs.Paxos.{Pending, State, union, vote, size, hold_new, merge_votes_up_to, commit_to, newly_to, detect_gap, recovery}
-use Rattle.protocol.specs.View.{last_of}
 use Rattle.protocol.specs.Turns.{Initiated, Participated, propose, current_term_of, proposal_data_of, nack, votes_of, quorum_term, packet_of, announce, initiator_turn, take_data, take_piggyback, take_votes, participant_turn}
 use Rattle.protocol.specs.Growth.{data_for}
 use Rattle.protocol.proofs.Places.{either}
 use Rattle.protocol.proofs.Sets.{union_lt, union_assoc}
 use Rattle.rules.proofs.Votes.{union_same, union_none, union_twice, union_swap, vote_lt, starters, starters_lt, starters_split, size_starters}
-use Rattle.rules.proofs.Claimed.{entries, waits, state_with, waits_in, node_votes, not_held, is_held, commit_last, no_gap, hold_claimed, merge_all, quorum_none, quorum_one}
+use Rattle.rules.proofs.Claimed.{last_of, entries, waits, state_with, waits_in, node_votes, not_held, is_held, commit_last, no_gap, hold_claimed, merge_all, quorum_none, quorum_one}
 
 -- Round k is one of the P + n / 2 rounds of a run of n nodes with P proposals.
 pub record Fits (n P k : ℕ) : Type 0 where
@@ -56,7 +51,7 @@ abbrev pub term_in : ℕ → ℕ → ℕ
 term_in P k = current_term_of (proposes_at P k) (min k P)
 
 unfoldable pub sent : ℕ → ℕ → ℕ → Packet
-sent n P k = packet_of (k % n) (term_in P k) Nack.None (proposal_data_of (proposes_at P k) (min k P)) Piggyback.None (announced n P k)
+sent n P k = packet_of (k % n) (term_in P k) None (proposal_data_of (proposes_at P k) (min k P)) None (announced n P k)
 
 -- ---- votes
 
@@ -90,7 +85,7 @@ take_held : (c m : ℕ) (v : ℕ → ℕ) (t x : ℕ) → c ≤ t → t < m → 
 unfolding take_data hold_new
 take_held c m v t x h l = rw (is_held c m v t h l)
 
-take_none : (t x : ℕ) (s : State) → take_data t x Data.Empty s ≡ s
+take_none : (t x : ℕ) (s : State) → take_data t x None s ≡ s
 unfolding take_data
 take_none t x s = refl
 
@@ -148,22 +143,22 @@ module _ {n P k : ℕ} (f : Fits n P k) where
           (quorum_one (k - n / 2) (min (suc k) P) (own_votes n k) n 64 (k - n / 2) (omega arith) q (omega arith)
           (omega (arith, votes_many (k - n / 2) (omega arith) q)) (λ t c m. omega (arith, votes_many t (omega arith) m)))
 
-  pub initiated : initiator_turn (k % n) n (min k P) (proposes_at P k) Piggyback.None (claimed n P k (k % n))
+  pub initiated : initiator_turn (k % n) n (min k P) (proposes_at P k) None (claimed n P k (k % n))
       ≡ record { state = announced n P k; packet = sent n P k; newly = newly_to (last_of (suc k - n / 2)) (entries (k - n / 2)) }
   unfolding initiator_turn announce announced sent
   initiated =
       let i : ℕ = k % n in
       let t : ℕ = term_in P k in
-      let d : Data = proposal_data_of (proposes_at P k) (min k P) in
+      let d : Option Term = proposal_data_of (proposes_at P k) (min k P) in
       let x : State = state_with (k - n / 2) (min (suc k) P) (own_votes n k) in
-      ap₂ (λ (g : Gap) (s : State). announce i n t (nack g) d Piggyback.None s) gap proposed
-      ∙ ap (λ (l : LastAccepted). said i t d (commit_to l x) (newly_to l (entries (k - n / 2)))) accepts
+      ap₂ (λ (g : Option Term) (s : State). announce i n t (nack g) d None s) gap proposed
+      ∙ ap (λ (l : Option Term). said i t d (commit_to l x) (newly_to l (entries (k - n / 2)))) accepts
       ∙ ap (λ (s : State). said i t d s (newly_to (last_of (suc k - n / 2)) (entries (k - n / 2)))) (commit_last (suc k - n / 2) (k - n / 2) (min (suc k) P) (own_votes n k) (omega arith) (omega arith))
     where
-      said : ℕ → ℕ → Data → State → List ℕ → Initiated
-      said i t d s newly = record { state = s; packet = packet_of i t Nack.None d Piggyback.None s; newly = newly }
+      said : ℕ → ℕ → Option Term → State → List ℕ → Initiated
+      said i t d s newly = record { state = s; packet = packet_of i t None d None s; newly = newly }
 
-      gap : detect_gap (min k P) (claimed n P k (k % n)) ≡ Gap.None
+      gap : detect_gap (min k P) (claimed n P k (k % n)) ≡ None
       gap = unfold claimed in no_gap (k - n / 2) (min k P) (votes_after n k (k % n)) (omega arith)
 
   -- ---- a participant's turn
@@ -213,7 +208,7 @@ module _ {n P k : ℕ} (f : Fits n P k) where
       ∙ merge_all c m (λ t. union (v t) flags) (term_in P k) (vote i) most
       ∙ node_votes c m (λ t. union (union (v t) flags) (vote i)) (votes_after n (suc k) i) same
 
-  data_at_lem : Data
+  data_at_lem : Option Term
   data_at_lem = proposal_data_of (proposes_at P k) (min k P)
 
   -- the votes' part of a turn
@@ -309,18 +304,18 @@ module _ {n P k : ℕ} (f : Fits n P k) where
 
   -- a node that is not the initiator
   pub participated : (i : ℕ) → i < n → participant_turn i (sent n P k) (claimed n P k i)
-      ≡ record { state = claimed n P (suc k) i; newly = newly_to (last_of (suc k - n / 2)) (entries (k - n / 2)); recovered = Piggyback.None }
+      ≡ record { state = claimed n P (suc k) i; newly = newly_to (last_of (suc k - n / 2)) (entries (k - n / 2)); recovered = None }
   unfolding participant_turn take_piggyback recovery sent announced claimed
   participated i h = ap (λ (s : State). done s) (votes_other i h)
     where
       done : State → Participated
-      done s = record { state = s; newly = newly_to (last_of (suc k - n / 2)) (entries (k - n / 2)); recovered = Piggyback.None }
+      done s = record { state = s; newly = newly_to (last_of (suc k - n / 2)) (entries (k - n / 2)); recovered = None }
 
   -- the initiator
   pub participated_own : participant_turn (k % n) (sent n P k) (announced n P k)
-      ≡ record { state = claimed n P (suc k) (k % n); newly = newly_to (last_of (suc k - n / 2)) (entries (suc k - n / 2)); recovered = Piggyback.None }
+      ≡ record { state = claimed n P (suc k) (k % n); newly = newly_to (last_of (suc k - n / 2)) (entries (suc k - n / 2)); recovered = None }
   unfolding participant_turn take_piggyback recovery sent announced
   participated_own = ap (λ (s : State). done s) votes_own
     where
       done : State → Participated
-      done s = record { state = s; newly = newly_to (last_of (suc k - n / 2)) (entries (suc k - n / 2)); recovered = Piggyback.None }
+      done s = record { state = s; newly = newly_to (last_of (suc k - n / 2)) (entries (suc k - n / 2)); recovered = None }

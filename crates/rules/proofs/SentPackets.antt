@@ -1,8 +1,9 @@
 -- Every packet of an accepted run is of its nodes and of terms below 64, and its data is that of its terms. Assumes nothing.
+use Rattle.std.specs.Prelude.{Option, Some, None}
 use Prim.Native.Nat.{ℕ, zero, suc, ◌+◌, ◌-◌, ◌^◌, ◌≤◌, ◌<◌, zero-le}
 use mathlib.Core.Bool.{Bool, true, false, cond, ◌||◌, true≢false}
 use mathlib.Core.Logic.{⊎_elim}
-use mathlib.Core.Option.{Option, none, some}
+use mathlib.Core.Option.{some}
 use mathlib.Core.Path.{◌≡◌, refl, sym, ap, ap₂, subst, ◌∙◌}
 use native.Mathlib.Nat.{le_trans, le_refl, mod-lt}
 use native.Mathlib.Omega.{arith}
@@ -14,11 +15,9 @@ use lib.Pow.{pow-lt, pow_mono, pow_pos}
 use Rattle.config.specs.Limits.{max_terms, most_rounds, set_bits}
 use Rattle.network.specs.Graph.{has}
 use Rattle.network.proofs.Sets.{two}
-use Rattle.phy.specs.declared.packet.Data.{Data}
-use Rattle.phy.specs.declared.packet.Nack.{Nack}
+use Rattle.network.specs.declared.units.Term.{Term}
 use Rattle.phy.specs.declared.packet.Packet.{Packet}
 use Rattle.phy.specs.declared.packet.Piggyback.{Piggyback}
-use Rattle.protocol.specs.declared.paxos.Gap.{Gap}
 use Rattle.protocol.specs.Growth.{own_log, Own, own_back}
 use Rattle.protocol.specs.Paxos.{Pending, State, empty, union, vote, logged, held, is_some, hold, voted, merge_votes_up_to, log_entry, after_last, gap_in, detect_gap, data_in, find, reply, recovery}
 use Rattle.protocol.specs.Turns.{counter_after, current_term_of, nack, votes_of, announce, initiator_turn, take_votes, participant_turn}
@@ -60,27 +59,27 @@ held_below c =
           let there : is_some (s.pending j) ≡ false = or_right_false (logged j s.log) (is_some (s.pending j)) (q j h) in
           ap₂ ◌||◌ (logged_append j s.log (log_entry t (s.pending t)) ∙ ap₂ ◌||◌ here (entering t j s there)) (dropped (eqb j t) (s.pending j) there));
       holds = λ t v d s e a w q j h.
-          ap (λ (b : Bool). logged j s.log || is_some (cond b (some (record { votes = v; «data» = d })) (s.pending j))) (ne_eqb j t (λ g. omega (arith, g))) ∙ q j h;
+          ap (λ (b : Bool). logged j s.log || is_some (cond b (Some (record { votes = v; «data» = d })) (s.pending j))) (ne_eqb j t (λ g. omega (arith, g))) ∙ q j h;
       merges = λ u f s w q j h. ap (λ (b : Bool). logged j s.log || b) (voting (leb j u) f (s.pending j)) ∙ q j h;
     }
   where
     -- what enters the log was pending
     entry : (j t : ℕ) (o : Option Pending) → is_some o ≡ false → logged j (log_entry t o) ≡ false
-    entry j t none e = refl
-    entry j t (some p) e = absurd (true≢false e)
+    entry j t None e = refl
+    entry j t (Some p) e = absurd (true≢false e)
 
     entering : (t j : ℕ) (s : State) → is_some (s.pending j) ≡ false → logged j (log_entry t (s.pending t)) ≡ false
     entering t j s e =
         ⊎_elim (λ w. entry j t (s.pending t) (ap (λ (k : ℕ). is_some (s.pending k)) (sym (eqb-true j t w)) ∙ e)) (one_logged j t (s.pending t)) (two (eqb j t))
 
-    dropped : (b : Bool) (o : Option Pending) → is_some o ≡ false → is_some (cond b none o) ≡ false
+    dropped : (b : Bool) (o : Option Pending) → is_some o ≡ false → is_some (cond b None o) ≡ false
     dropped true o e = refl
     dropped false o e = e
 
     voting : (b : Bool) (f : ℕ) (o : Option Pending) → is_some (voted b f o) ≡ is_some o
-    voting b f none = refl
-    voting true f (some p) = refl
-    voting false f (some p) = refl
+    voting b f None = refl
+    voting true f (Some p) = refl
+    voting false f (Some p) = refl
 
 union_below : (n a b : ℕ) → n ≤ set_bits → a < 2 ^ n → b < 2 ^ n → union a b < 2 ^ n
 union_below n a b few ha hb = rw (union_or a b (le_trans ha (pow_mono few)) (le_trans hb (pow_mono few))) (or_lt n a b ha hb)
@@ -89,15 +88,15 @@ votes_below : (n : ℕ) → n ≤ set_bits → Keeps AnyData (λ v. v < 2 ^ n) (
 unfolding hold merge_votes_up_to
 votes_below n few =
     record {
-      commits = λ t s q. by_log (VotesBelow n) t s (λ e. q) (λ e j. same_or (λ (b : Bool). votes_of (cond b none (s.pending j)) < 2 ^ n) j t (λ g. pow_pos n) (λ g. q j));
-      holds = λ t v d s e a w q j. same_or (λ (b : Bool). votes_of (cond b (some (record { votes = v; «data» = d })) (s.pending j)) < 2 ^ n) j t (λ g. w) (λ g. q j);
+      commits = λ t s q. by_log (VotesBelow n) t s (λ e. q) (λ e j. same_or (λ (b : Bool). votes_of (cond b None (s.pending j)) < 2 ^ n) j t (λ g. pow_pos n) (λ g. q j));
+      holds = λ t v d s e a w q j. same_or (λ (b : Bool). votes_of (cond b (Some (record { votes = v; «data» = d })) (s.pending j)) < 2 ^ n) j t (λ g. w) (λ g. q j);
       merges = λ u f s w q j. voting (leb j u) f (s.pending j) w (q j);
     }
   where
     voting : (b : Bool) (f : ℕ) (o : Option Pending) → f < 2 ^ n → votes_of o < 2 ^ n → votes_of (voted b f o) < 2 ^ n
-    voting b f none w q = q
-    voting true f (some p) w q = union_below n p.votes f few q w
-    voting false f (some p) w q = q
+    voting b f None w q = q
+    voting true f (Some p) w q = union_below n p.votes f few q w
+    voting false f (Some p) w q = q
 
 -- ---- a node's state and a packet, while the counter is c
 
@@ -117,16 +116,16 @@ record Sending (n c : ℕ) (p : Packet) : Type 0 where
   back : back_below c p.piggyback
 
 -- a gap is below the counter
-abbrev gap_below : ℕ → Gap → Type 0
-gap_below c Gap.None = Unit {0}
-gap_below c (Gap.At t) = t.0 < c
+abbrev gap_below : ℕ → Option Term → Type 0
+gap_below c None = Unit {0}
+gap_below c (Some t) = t.0 < c
 
 gap_in_below : (c k t : ℕ) (s : State) → (1 ≤ k → t + k ≤ c) → gap_below c (gap_in k t s)
 unfolding gap_in
 gap_in_below c zero t s h = tt
 gap_in_below c (suc k) t s h = go (held t s) (gap_in_below c k (suc t) s (λ l. omega (arith, h (omega arith))))
   where
-    go : (b : Bool) → gap_below c (gap_in k (suc t) s) → gap_below c (cond b (gap_in k (suc t) s) (Gap.At (record { 0 = t })))
+    go : (b : Bool) → gap_below c (gap_in k (suc t) s) → gap_below c (cond b (gap_in k (suc t) s) (Some (record { 0 = t })))
     go true later = later
     go false later = omega (arith, h (omega arith))
 
@@ -135,27 +134,27 @@ nack_below_lem : (c : ℕ) (s : State) → nack_below c (nack (detect_gap c s))
 unfolding detect_gap
 nack_below_lem c s = of_gap (detect_gap c s) (gap_in_below c (c - after_last s.last) (after_last s.last) s (λ l. omega (arith, l)))
   where
-    of_gap : (gap : Gap) → gap_below c gap → nack_below c (nack gap)
-    of_gap Gap.None h = tt
-    of_gap (Gap.At t) h = go (eqb t.0 0) refl
+    of_gap : (gap : Option Term) → gap_below c gap → nack_below c (nack gap)
+    of_gap None h = tt
+    of_gap (Some t) h = go (eqb t.0 0) refl
       where
-        go : (b : Bool) → eqb t.0 0 ≡ b → nack_below c (cond b Nack.None (Nack.Of t))
+        go : (b : Bool) → eqb t.0 0 ≡ b → nack_below c (cond b None (Some t))
         go true e = tt
         go false e = (omega (arith, eqb-false t.0 0 e), h)
 
-nack_more : {c d : ℕ} (a : Nack) → c ≤ d → nack_below c a → nack_below d a
-nack_more Nack.None h k = tt
-nack_more (Nack.Of t) h k = (k.0, le_trans k.1 h)
+nack_more : {c d : ℕ} (a : Option Term) → c ≤ d → nack_below c a → nack_below d a
+nack_more None h k = tt
+nack_more (Some t) h k = (k.0, le_trans k.1 h)
 
 -- a term that is recovered is the NACK's
-recovery_below : (c : ℕ) → c ≤ max_terms → (a : Nack) (s : State) → nack_below c a → own_back (recovery a s) → back_below c (recovery a s)
+recovery_below : (c : ℕ) → c ≤ max_terms → (a : Option Term) (s : State) → nack_below c a → own_back (recovery a s) → back_below c (recovery a s)
 unfolding recovery
-recovery_below c most Nack.None s h own = tt
-recovery_below c most (Nack.Of t) s h own = go (data_in (find t.0 s.log) (s.pending t.0)) own
+recovery_below c most None s h own = tt
+recovery_below c most (Some t) s h own = go (data_in (find t.0 s.log) (s.pending t.0)) own
   where
-    go : (o : Option Data) → own_back (reply t.0 o) → back_below c (reply t.0 o)
-    go none w = tt
-    go (some d) w = (h.1, subst data_below (sym w) (omega (arith, h.1)))
+    go : (o : Option (Option Term)) → own_back (reply t.0 o) → back_below c (reply t.0 o)
+    go None w = tt
+    go (Some d) w = (h.1, subst data_below (sym w) (omega (arith, h.1)))
 
 -- the current term, and that of a proposal
 current_below : (b : Bool) (c : ℕ) → counter_after b c ≤ max_terms → current_term_of b c < max_terms
@@ -169,7 +168,7 @@ proposed_below false c e = absurd (true≢false (sym e))
 -- ---- the turns of node i
 
 module _ (n : ℕ) (few : n ≤ set_bits) (i : ℕ) (node : i < n) where
-  initiator_holds : (c : ℕ) (b : Bool) (pb : Piggyback) (s : State) → Holding n c s → Holding n (counter_after b c) (initiator_turn i n c b pb s).state
+  initiator_holds : (c : ℕ) (b : Bool) (pb : Option Piggyback) (s : State) → Holding n c s → Holding n (counter_after b c) (initiator_turn i n c b pb s).state
   initiator_holds c b pb s k =
       let free : held c s ≡ false = k.below c (le_refl c) in
       record {
@@ -181,7 +180,7 @@ module _ (n : ℕ) (few : n ≤ set_bits) (i : ℕ) (node : i < n) where
         low = low_initiator i n c b pb s k.low;
       }
 
-  initiator_sends : (c : ℕ) (b : Bool) (pb : Piggyback) (s : State) → counter_after b c ≤ max_terms → Holding n c s → back_below c pb → own_back pb →
+  initiator_sends : (c : ℕ) (b : Bool) (pb : Option Piggyback) (s : State) → counter_after b c ≤ max_terms → Holding n c s → back_below c pb → own_back pb →
       Sending n (counter_after b c) (initiator_turn i n c b pb s).packet
   unfolding initiator_turn announce
   initiator_sends c b pb s most k back own =
@@ -217,13 +216,13 @@ module _ (n : ℕ) (few : n ≤ set_bits) (i : ℕ) (node : i < n) where
           low = low_participant i p s sending.sent.last k.low;
         }
       where
-        asked : (t : ℕ) (d : Data) → proposal_below c t d → AskData (λ u e. u < c) t d
-        asked t Data.Empty h = tt
-        asked t (Data.Of u) h = h.0
+        asked : (t : ℕ) (d : Option Term) → proposal_below c t d → AskData (λ u e. u < c) t d
+        asked t None h = tt
+        asked t (Some u) h = h.0
 
-        asked_back : (pb : Piggyback) → back_below c pb → AskBack (λ u e. u < c) pb
-        asked_back Piggyback.None h = tt
-        asked_back (Piggyback.Of t d) h = h.0
+        asked_back : (pb : Option Piggyback) → back_below c pb → AskBack (λ u e. u < c) pb
+        asked_back None h = tt
+        asked_back (Some again) h = h.0
 
     participant_own_back : own_back (participant_turn i p s).recovered
     participant_own_back = participant_recovered i p s sending.sent.own k.own
@@ -287,9 +286,9 @@ module _ (n P : ℕ) (few : n ≤ set_bits) (most : P ≤ max_terms) where
           own = newest own_back (participant_turn j packet state).recovered s.piggyback own o.own;
         }
       where
-        newest : (Q : Piggyback → Type 0) (new old : Piggyback) → Q new → Q old → Q (latest new old)
-        newest Q Piggyback.None old a b = b
-        newest Q (Piggyback.Of t d) old a b = a
+        newest : (Q : Option Piggyback → Type 0) (new old : Option Piggyback) → Q new → Q old → Q (latest new old)
+        newest Q None old a b = b
+        newest Q (Some again) old a b = a
 
     order_turns : (c m : ℕ) (s : Shared) → m ≤ n → Sending n c packet → Turned c s → Turned c (turns packet slot part m s)
     unfolding turns take_turn

@@ -2,7 +2,6 @@
 use Prim.Native.Nat.{ℕ, suc, ◌+◌, ◌*◌, ◌^◌, ◌≤◌, ◌<◌}
 use mathlib.Core.Bool.{Bool, true, false, cond}
 use mathlib.Core.Logic.{⊎_elim}
-use mathlib.Core.Option.{Option, some}
 use mathlib.Core.Path.{◌≡◌, refl, sym, ap, subst, ◌∙◌}
 use native.Mathlib.Nat.{mod-lt, mul-le-mul}
 use native.Mathlib.Omega.{arith}
@@ -10,8 +9,9 @@ use lib.Count.{ones}
 use lib.Dec.{eqb, leb}
 use lib.ListN.{length, get_or-replicate}
 use borrow.Author.Tests.{leb-true, leb-false, le-leb}
+use Rattle.config.specs.declared.refusal.Refusal.{Refusal}
 use Rattle.config.specs.Limits.{max_repeats, max_round_slots, most_rounds}
-use Rattle.config.specs.declared.RoundSlots.{RoundSlots}
+use Rattle.std.specs.Prelude.{Option, Some, None}
 use Rattle.network.specs.Graph.{has, count}
 use Rattle.network.specs.Questions.{within, first_no}
 use Rattle.network.proofs.Sets.{two, set_of_one, has_one}
@@ -27,7 +27,7 @@ use Rattle.phy.proofs.Asleep.{initiator_sleeps, nobody_sleeps}
 use Rattle.protocol.proofs.Sets.{one_bit}
 use Rattle.pipeline.specs.Round.{initiator_of}
 use Rattle.rules.specs.Accepted.{Accepted}
-use Rattle.rules.specs.Questions.{slots_allowed, slots_suffice, short_round, other_questions}
+use Rattle.rules.specs.Questions.{slots_allowed, slots_suffice, other_questions}
 use Rattle.rules.specs.Run.{Given, Past, Running, begin, setup_of, prepared_in, flooded_in, run_round, run_for}
 use Rattle.rules.specs.Entries.{given_for}
 use Rattle.rules.specs.ShortRounds.{InitiatorsSleep, Unfinished, ShortRoundsUnfinished, EitherFirst}
@@ -39,9 +39,9 @@ use Rattle.rules.proofs.Rounds.{rounds_more}
 -- ---- rounds that are long enough
 
 -- the length limit is at least the repeats
-limit_suffices : (slots : RoundSlots) (d repeats : ℕ) → slots_suffice repeats slots ≡ true → repeats ≤ length_limit slots d repeats
-limit_suffices (RoundSlots.Of s) d repeats ok = leb-true repeats s ok
-limit_suffices RoundSlots.Absent d repeats ok =
+limit_suffices : (slots : Option ℕ) (d repeats : ℕ) → slots_suffice repeats slots ≡ true → repeats ≤ length_limit slots d repeats
+limit_suffices (Some s) d repeats ok = leb-true repeats s ok
+limit_suffices None d repeats ok =
     let most : 1 * repeats ≤ (d + 2) * repeats = mul-le-mul {n₁ = 1} {m₁ = repeats} {n₂ = d + 2} {m₂ = repeats} (omega arith) (omega arith) in
     omega (arith, most)
 
@@ -71,10 +71,10 @@ alone n a r h e =
     ∙ ap ones (set_of_one n a h)
     ∙ one_bit a
 
-module _ (g : Given) (longest : ℕ) (some-node : 1 ≤ g.nodes) (given : g.round_slots ≡ RoundSlots.Of longest) (short : longest < g.repeats) where
+module _ (g : Given) (longest : ℕ) (some-node : 1 ≤ g.nodes) (given : g.round_slots ≡ Some longest) (short : longest < g.repeats) where
   nobody_in : (k : ℕ) (r : Running) → NobodySlept g.nodes longest (initiator_of g.nodes k) r.standing (flooded_in g k r)
   nobody_in k r =
-      let is : length_limit g.round_slots g.diameter g.repeats ≡ longest = ap (λ (x : RoundSlots). length_limit x g.diameter g.repeats) given in
+      let is : length_limit g.round_slots g.diameter g.repeats ≡ longest = ap (λ (x : Option ℕ). length_limit x g.diameter g.repeats) given in
       subst (λ (m : ℕ). NobodySlept g.nodes m (initiator_of g.nodes k) r.standing (flooded_in g k r)) is
       (nobody_sleeps (setup_of g r.shared) (length_limit g.round_slots g.diameter g.repeats) (initiator_of g.nodes k) (prepared_in g k r).packet r.standing
       (initiator_low g.nodes k some-node) (omega (arith, is)))
@@ -119,15 +119,15 @@ short_rounds_unfinished g longest some-node given short = unfinished g longest s
 pub either_first : EitherFirst
 either_first c = go (within 1 max_repeats c.flood_repeats) refl c.round_slots
   where
-    rest : Option ℕ
+    rest : Option Refusal
     rest = first_no (other_questions c)
 
-    go : (b : Bool) → within 1 max_repeats c.flood_repeats ≡ b → (slots : RoundSlots)
-        → cond b (cond (slots_allowed slots) (cond (slots_suffice c.flood_repeats slots) rest (some short_round)) (some 6)) (some 5)
-        ≡ cond b (cond (slots_suffice c.flood_repeats slots) (cond (slots_allowed slots) rest (some 6)) (some short_round)) (some 5)
+    go : (b : Bool) → within 1 max_repeats c.flood_repeats ≡ b → (slots : Option ℕ)
+        → cond b (cond (slots_allowed slots) (cond (slots_suffice c.flood_repeats slots) rest (Some Refusal.ShortRound)) (Some Refusal.RoundLength)) (Some Refusal.RepeatCount)
+        ≡ cond b (cond (slots_suffice c.flood_repeats slots) (cond (slots_allowed slots) rest (Some Refusal.RoundLength)) (Some Refusal.ShortRound)) (Some Refusal.RepeatCount)
     go false e slots = refl
-    go true e RoundSlots.Absent = refl
-    go true e (RoundSlots.Of m) =
+    go true e None = refl
+    go true e (Some m) =
         ⊎_elim (λ p. rw p)
         (λ p.
         let long : leb c.flood_repeats m ≡ true = le-leb c.flood_repeats m (omega (arith, leb-false m max_round_slots p, within_both 1 max_repeats c.flood_repeats e)) in

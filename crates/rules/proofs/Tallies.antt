@@ -1,9 +1,9 @@
 -- What the nodes share grows by little in a round: one NACK, a piggyback for each node, and at most 64 records in all. Assumes nothing.
+use Rattle.std.specs.Prelude.{Option, Some, None}
 use Prim.Native.Nat.{ℕ, zero, suc, ◌+◌, ◌≤◌, ◌<◌}
 use mathlib.Core.Bool.{Bool, true, false, cond, ◌||◌}
 use mathlib.Core.List.{List, [], ◌∷◌, ◌++◌}
 use mathlib.Core.Logic.{⊎_elim}
-use mathlib.Core.Option.{none}
 use mathlib.Core.Path.{refl, sym, ap, ◌∙◌, subst}
 use native.Mathlib.Omega.{arith}
 use borrow.Author.Tests.{eq-eqb}
@@ -11,8 +11,7 @@ use lib.Dec.{eqb, ltb}
 use lib.ListN.{length, get_or, length-append}
 use Rattle.network.specs.Graph.{has, count}
 use Rattle.network.proofs.Sets.{two, or_right, count_lt}
-use Rattle.phy.specs.declared.packet.Data.{Data}
-use Rattle.phy.specs.declared.packet.LastAccepted.{LastAccepted}
+use Rattle.network.specs.declared.units.Term.{Term}
 use Rattle.phy.specs.declared.packet.Packet.{Packet}
 use Rattle.phy.specs.declared.packet.Piggyback.{Piggyback}
 use Rattle.protocol.specs.Paxos.{LogEntry, State, logged, vote, held, updated, hold, hold_new, merge_votes_up_to, raise, log_entry, greatest_quorum, commit_term, commit_below, commit_to, newly_below, newly_to}
@@ -50,10 +49,10 @@ few_below starts end (suc k) l rs h f =
     go true now f = f
     go false now f = few_one starts end k now (omega arith) f
 
-few_to : (starts : List ℕ) (end : ℕ) (last : LastAccepted) (l : List LogEntry) (rs : List Record) → last_below 64 last → FewRecords rs → FewRecords (record_all starts end (newly_to last l) rs)
+few_to : (starts : List ℕ) (end : ℕ) (last : Option Term) (l : List LogEntry) (rs : List Record) → last_below 64 last → FewRecords rs → FewRecords (record_all starts end (newly_to last l) rs)
 unfolding newly_to record_all
-few_to starts end LastAccepted.None l rs h f = f
-few_to starts end (LastAccepted.At u) l rs h f = few_below starts end (suc u.0) l rs h f
+few_to starts end None l rs h f = f
+few_to starts end (Some u) l rs h f = few_below starts end (suc u.0) l rs h f
 
 -- ---- a node's last accepted term stays below 64
 
@@ -65,26 +64,26 @@ unfolding commit_below commit_term
 low_below zero s h l = l
 low_below (suc k) s h l = go (logged k (commit_below k s).log) (low_below k s (omega arith) l)
   where
-    raised : (last : LastAccepted) → last_below 64 last → last_below 64 (raise k last)
-    raised LastAccepted.None l = h
-    raised (LastAccepted.At u) l = omega (arith, l)
+    raised : (last : Option Term) → last_below 64 last → last_below 64 (raise k last)
+    raised None l = h
+    raised (Some u) l = omega (arith, l)
 
     go : (b : Bool) → Low (commit_below k s)
-        → last_below 64 (cond b (commit_below k s) (record { log = (commit_below k s).log ++ log_entry k ((commit_below k s).pending k); pending = updated k none (commit_below k s).pending; last = raise k (commit_below k s).last })).last
+        → last_below 64 (cond b (commit_below k s) (record { log = (commit_below k s).log ++ log_entry k ((commit_below k s).pending k); pending = updated k None (commit_below k s).pending; last = raise k (commit_below k s).last })).last
     go true l = l
     go false l = raised (commit_below k s).last l
 
-low_to : (last : LastAccepted) (s : State) → last_below 64 last → Low s → Low (commit_to last s)
+low_to : (last : Option Term) (s : State) → last_below 64 last → Low s → Low (commit_to last s)
 unfolding commit_to
-low_to LastAccepted.None s h l = l
-low_to (LastAccepted.At u) s h l = low_below (suc u.0) s h l
+low_to None s h l = l
+low_to (Some u) s h l = low_below (suc u.0) s h l
 
 low_propose : (b : Bool) (i c : ℕ) (s : State) → Low s → Low (propose b i c s)
 unfolding hold
 low_propose true i c s l = l
 low_propose false i c s l = l
 
-low_new : (t v : ℕ) (d : Data) (s : State) → Low s → Low (hold_new t v d s)
+low_new : (t v : ℕ) (d : Option Term) (s : State) → Low s → Low (hold_new t v d s)
 unfolding hold_new hold
 low_new t v d s l = go (held t s)
   where
@@ -92,17 +91,17 @@ low_new t v d s l = go (held t s)
     go true = l
     go false = l
 
-low_data : (t v : ℕ) (d : Data) (s : State) → Low s → Low (take_data t v d s)
+low_data : (t v : ℕ) (d : Option Term) (s : State) → Low s → Low (take_data t v d s)
 unfolding take_data
-low_data t v Data.Empty s l = l
-low_data t v (Data.Of u) s l = low_new t v (Data.Of u) s l
+low_data t v None s l = l
+low_data t v (Some u) s l = low_new t v (Some u) s l
 
-low_piggyback : (v : ℕ) (p : Piggyback) (s : State) → Low s → Low (take_piggyback v p s)
+low_piggyback : (v : ℕ) (p : Option Piggyback) (s : State) → Low s → Low (take_piggyback v p s)
 unfolding take_piggyback
-low_piggyback v Piggyback.None s l = l
-low_piggyback v (Piggyback.Of t d) s l = low_new t.0 v d s l
+low_piggyback v None s l = l
+low_piggyback v (Some again) s l = low_new again.term.0 v again.«data» s l
 
-pub low_initiator : (i n c : ℕ) (b : Bool) (pb : Piggyback) (s : State) → Low s → Low (initiator_turn i n c b pb s).state
+pub low_initiator : (i n c : ℕ) (b : Bool) (pb : Option Piggyback) (s : State) → Low s → Low (initiator_turn i n c b pb s).state
 unfolding initiator_turn announce
 low_initiator i n c b pb s l = low_to (greatest_quorum 64 n (propose b i c s)) (propose b i c s) (greatest_below 64 n (propose b i c s)) (low_propose b i c s l)
 

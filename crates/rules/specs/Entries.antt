@@ -1,6 +1,5 @@
 -- What an entry answers, and the final contents of the lent buffers (rules 1.4, 2.6, 7.1 to 7.5, 9.1 and 9.3).
-use Rattle.std.specs.Prelude.{ℕ, zero, suc, ◌+◌, ◌*◌, List, [], ◌∷◌, ◌++◌, map, length}
-use Rattle.std.proofs.Math.Option.{Option, none, some}
+use Rattle.std.specs.Prelude.{ℕ, zero, suc, ◌+◌, ◌*◌, List, [], ◌∷◌, ◌++◌, map, length, Option, Some, None, Result, Ok, Err}
 use Rattle.std.proofs.lemmas.List.Edits.{sets}
 use Rattle.config.specs.Limits.{max_terms, log_counts}
 use Rattle.network.specs.Graph.{widened}
@@ -12,8 +11,7 @@ use Rattle.phy.specs.Snapshots.{snapshots_with}
 use Rattle.protocol.specs.Paxos.{LogEntry, State}
 use Rattle.metrics.specs.declared.summary.Summary.{Summary}
 use Rattle.config.specs.declared.Config.{Config}
-use Rattle.rules.specs.declared.answer.Answer.{Answer}
-use Rattle.rules.specs.declared.answer.Answer.TheVariants.{Ran, Refused}
+use Rattle.config.specs.declared.refusal.Refusal.{Refusal}
 use Rattle.rules.specs.Networks.{RowsOrTopology, of_rows, of_topology, nodes_in, rows_in}
 use Rattle.network.specs.Questions.{first_no}
 use Rattle.rules.specs.Questions.{run_questions, run_refusal_for}
@@ -22,7 +20,7 @@ use Rattle.rules.specs.Run.{Given, Running, Ended, run}
 
 -- the answer, and what the three buffers hold afterwards
 pub record Outcome : Type 0 where
-  pub answer : Answer
+  pub answer : Result Summary Refusal
   pub logs : List ℕ
   pub records : List ℕ
   pub snapshots : List ℕ
@@ -75,7 +73,7 @@ unfoldable pub ran_with : Given → List ℕ → List ℕ → List ℕ → Outco
 ran_with g logs records snapshots =
     let e : Ended = run g in
     record {
-      answer = Ran (summary_of g e);
+      answer = Ok (summary_of g e);
       logs = logs_with logs e.running.shared.states g.nodes;
       records = sets records 0 (record_numbers e.running.shared.records);
       snapshots = snapshots_with snapshots e.running.standing.shots.taken;
@@ -101,9 +99,9 @@ abbrev pub given_of : List ℕ → ℕ → Config → Given
 given_of rows n c = let graph : List ℕ = widened rows n in given_as graph n (diameter graph n) c
 
 -- a refusal leaves every buffer as it was
-abbrev pub outcome_of : Option ℕ → Given → List ℕ → List ℕ → List ℕ → Outcome
-outcome_of none g logs records snapshots = ran_with g logs records snapshots
-outcome_of (some k) g logs records snapshots = record { answer = Refused k; logs = logs; records = records; snapshots = snapshots }
+abbrev pub outcome_of : Option Refusal → Given → List ℕ → List ℕ → List ℕ → Outcome
+outcome_of None g logs records snapshots = ran_with g logs records snapshots
+outcome_of (Some r) g logs records snapshots = record { answer = Err r; logs = logs; records = records; snapshots = snapshots }
 
 -- run of a graph that its own questions let pass: those of the configuration and of the buffers, then the run
 abbrev pub run_of_graph : List ℕ → ℕ → ℕ → Config → List ℕ → List ℕ → List ℕ → Outcome

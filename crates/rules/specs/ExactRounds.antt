@@ -7,11 +7,11 @@ use Rattle.config.specs.Limits.{max_terms, record_size, log_counts}
 use Rattle.network.specs.Distance.{links, distance, eccentricity, Joined}
 use Rattle.random.specs.Table.{tabulate}
 use Rattle.phy.specs.declared.node.Node.{Node}
-use Rattle.config.specs.declared.RoundSlots.{RoundSlots}
+use Rattle.std.specs.Prelude.{Option, Some, None}
 use Rattle.phy.specs.Slot.{at}
 use Rattle.metrics.specs.declared.summary.Summary.{Summary}
 use Rattle.config.specs.declared.Config.{Config}
-use Rattle.rules.specs.declared.answer.Answer.TheVariants.{Ran}
+use Rattle.std.specs.Prelude.{Ok}
 use Rattle.pipeline.specs.Round.{state_of, initiator_of}
 use Rattle.rules.specs.Run.{Given, Past, Ended, length_of, run}
 use Rattle.rules.specs.Networks.{RowsOrTopology}
@@ -102,9 +102,9 @@ pub record ExactRounds (g : Given) (e : Ended) (s : Summary) (logs records : Lis
 -- ---- the premises
 
 -- `round_slots` is absent or at least m
-abbrev pub AbsentOrAtLeast : ℕ → RoundSlots → Type 0
-AbsentOrAtLeast m RoundSlots.Absent = Unit {0}
-AbsentOrAtLeast m (RoundSlots.Of slots) = m ≤ slots
+abbrev pub AbsentOrAtLeast : ℕ → Option ℕ → Type 0
+AbsentOrAtLeast m None = Unit {0}
+AbsentOrAtLeast m (Some slots) = m ≤ slots
 
 -- What holds of the configuration: paths of links join all nodes, P is at least 1, `round_slots` is absent or at least d + r, and the slot
 -- limit is at least (P + floor(n/2)) * (d + r).
@@ -116,7 +116,7 @@ pub record Suited (g : Given) : Type 0 where
 
 -- The run is accepted with the summary s, each of its attempts succeeds, and its configuration is suited.
 pub record NoneLost (q : RowsOrTopology) (c : Config) (logs records snapshots : List ℕ) (s : Summary) : Type 0 where
-  pub accepted : (outcome_for q c logs records snapshots).answer ≡ Ran s
+  pub accepted : (outcome_for q c logs records snapshots).answer ≡ Ok s
   pub equal : s.attempts ≡ s.successes
   pub suited : Suited (given_for q c)
 

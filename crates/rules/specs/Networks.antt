@@ -1,22 +1,28 @@
 -- The network that is asked for, by rows or by a topology: the questions put to it, its rows, and what asking for it answers (rules 3.1
 -- to 3.5, 9.2 and 9.3).
-use Rattle.std.specs.Prelude.{ℕ, Bool, List, ◌≡◌}
-use Rattle.std.proofs.Math.Option.{Option, none, some}
+use Rattle.std.specs.Prelude.{ℕ, Bool, List, Result}
+use Rattle.config.specs.Refusals.{unless}
+use Rattle.config.specs.declared.refusal.Refusal.{Refusal}
 use Rattle.network.specs.Graph.{widened}
 use Rattle.network.specs.Questions.{first_no, nodes_of, rows_questions, topology_questions}
 use Rattle.network.specs.Topology.{topology_rows, topology_of, graph_of}
 use Rattle.network.specs.Distance.{diameter}
-use Rattle.network.specs.declared.topology.BuiltGraph.{BuiltGraph}
-use Rattle.rules.specs.declared.networks.Extent.{Extent}
-use Rattle.rules.specs.declared.networks.Extent.TheVariants.{Of, Refused}
+use Rattle.network.specs.declared.graph.Graph.{Graph}
+use Rattle.rules.specs.declared.networks.Asked.{Asked}
+use Rattle.rules.specs.declared.networks.Network.{Network}
 
 -- rows for n nodes, or a topology with its two numbers
 pub data RowsOrTopology : Type 0 where
   of_rows : List ℕ → ℕ → RowsOrTopology
   of_topology : ℕ → ℕ → ℕ → RowsOrTopology
 
+-- what a value of the code asks for
+abbrev pub asked_for : Asked → RowsOrTopology
+asked_for (Asked.Rows rows n) = of_rows rows.now n
+asked_for (Asked.Topology topology first second) = of_topology topology first second
+
 -- its questions: 2 and 4, or 1 to 3
-abbrev pub network_questions : RowsOrTopology → List (Bool × ℕ)
+abbrev pub network_questions : RowsOrTopology → List (Bool × Refusal)
 network_questions (of_rows rows n) = rows_questions rows n
 network_questions (of_topology topology first second) = topology_questions topology first second
 
@@ -33,30 +39,14 @@ rows_in (of_topology topology first second) = topology_rows (topology_of topolog
 abbrev pub graph_in : RowsOrTopology → List ℕ
 graph_in q = widened (rows_in q) (nodes_in q)
 
--- what building it answers, `checked_graph` of rows and `built_graph` of a topology: the number of nodes with the graph, or the refusal
-abbrev pub built_for : RowsOrTopology → BuiltGraph
-built_for q = graph_of (rows_in q) (nodes_in q) (first_no (network_questions q))
+-- what building it answers, `checked_graph` of rows and `built_graph` of a topology
+abbrev pub built_for : RowsOrTopology → Result Graph Refusal
+built_for q = unless (first_no (network_questions q)) (graph_of (rows_in q) (nodes_in q))
 
--- it is what building some network answered
-abbrev pub BuiltAs : BuiltGraph → Type 0
-BuiltAs b = (q : RowsOrTopology) × (b ≡ built_for q)
+-- its graph with the diameter
+abbrev pub network_as : RowsOrTopology → Network
+network_as q = record { graph = graph_of (rows_in q) (nodes_in q); diameter = diameter (graph_in q) (nodes_in q) }
 
--- What asking for a network answers, and what the array that was lent for its graph then holds.
-pub record Network : Type 0 where
-  pub extent : Extent
-  pub graph : List ℕ
-
-abbrev pub network : Extent → List ℕ → Network
-network extent graph = record { extent = extent; graph = graph }
-
--- the number of nodes and the diameter with the graph, or the refusal, which leaves the array as it was, from its number or none
-abbrev pub network_as : RowsOrTopology → List ℕ → Option ℕ → Network
-network_as q lent none = network (Of (nodes_in q) (diameter (graph_in q) (nodes_in q))) (graph_in q)
-network_as q lent (some k) = network (Refused k) lent
-
-unfoldable pub network_for : RowsOrTopology → List ℕ → Network
-network_for q lent = network_as q lent (first_no (network_questions q))
-
--- it is what asking for some network answered
-abbrev pub AskedFor : Network → Type 0
-AskedFor x = (q : RowsOrTopology) × (lent : List ℕ) × (x ≡ network_for q lent)
+-- what asking for it answers
+unfoldable pub network_for : RowsOrTopology → Result Network Refusal
+network_for q = unless (first_no (network_questions q)) (network_as q)

@@ -4,7 +4,7 @@ use Rattle.std.specs.Prelude.{ℕ, ◌<◌, true, List, ◌↔◌, ◌≡◌}
 use Rattle.random.specs.Reception.{lossless}
 use Rattle.metrics.specs.declared.summary.Summary.{Summary}
 use Rattle.config.specs.declared.Config.{Config}
-use Rattle.rules.specs.declared.answer.Answer.TheVariants.{Ran}
+use Rattle.std.specs.Prelude.{Ok}
 use Rattle.rules.specs.Run.{run}
 use Rattle.rules.specs.Networks.{RowsOrTopology}
 use Rattle.rules.specs.Entries.{given_for, outcome_for}
@@ -14,14 +14,14 @@ use Rattle.rules.specs.ExactRounds.{ExactRounds, Suited}
 abbrev pub EqualWhenHeard : Type 0
 EqualWhenHeard =
     (q : RowsOrTopology) (c : Config) (logs records snapshots : List ℕ) (s : Summary) →
-    (outcome_for q c logs records snapshots).answer ≡ Ran s →
+    (outcome_for q c logs records snapshots).answer ≡ Ok s →
     (s.attempts ≡ s.successes) ↔ ((k : ℕ) → k < s.attempts → (given_for q c).heard k ≡ true)
 
 -- attempts and successes of an accepted run are equal where the loss rate is 0 or minus 0
 abbrev pub EqualAtRate0 : Type 0
 EqualAtRate0 =
     (q : RowsOrTopology) (c : Config) (logs records snapshots : List ℕ) (s : Summary) →
-    (outcome_for q c logs records snapshots).answer ≡ Ran s →
+    (outcome_for q c logs records snapshots).answer ≡ Ok s →
     lossless c.loss_rate ≡ true →
     s.attempts ≡ s.successes
 
@@ -29,7 +29,7 @@ EqualAtRate0 =
 abbrev pub ExactAtRate0 : Type 0
 ExactAtRate0 =
     (q : RowsOrTopology) (c : Config) (logs records snapshots : List ℕ) (s : Summary) →
-    (outcome_for q c logs records snapshots).answer ≡ Ran s →
+    (outcome_for q c logs records snapshots).answer ≡ Ok s →
     lossless c.loss_rate ≡ true →
     Suited (given_for q c) →
     ExactRounds (given_for q c) (run (given_for q c)) s

@@ -1,10 +1,8 @@
 -- The rounds, the four ends and the run (rules 6.1, 6.2, 6.5, 6.6, 6.9 and 6.10).
-use Rattle.std.specs.Prelude.{ℕ, zero, suc, ◌+◌, ◌-◌, ◌*◌, Bool, true, false, cond, ◌&&◌, List, [], ◌∷◌, ◌++◌, leb, ltb, eqb, length, replicate}
+use Rattle.std.specs.Prelude.{ℕ, zero, suc, ◌+◌, ◌-◌, ◌*◌, Bool, true, false, cond, ◌&&◌, List, [], ◌∷◌, ◌++◌, leb, ltb, eqb, length, replicate, Option, None}
 use Rattle.config.specs.Limits.{rounds_per_link, extra_rounds, most_rounds}
 use Rattle.network.specs.Graph.{all}
 use Rattle.phy.specs.declared.packet.Packet.{Packet}
-use Rattle.phy.specs.declared.packet.Piggyback.{Piggyback}
-use Rattle.config.specs.declared.RoundSlots.{RoundSlots}
 use Rattle.phy.specs.Node.{new}
 use Rattle.phy.specs.Slot.{Setup, Standing}
 use Rattle.phy.specs.Round.{Flooded, took_part_of, length_limit, round}
@@ -18,7 +16,7 @@ pub record Given : Type 0 where
   pub nodes : ℕ
   pub diameter : ℕ
   pub repeats : ℕ
-  pub round_slots : RoundSlots
+  pub round_slots : Option ℕ
   pub proposals : ℕ
   pub interval : ℕ
   pub limit : ℕ
@@ -49,7 +47,7 @@ abbrev pub begin : Given → Running
 begin g =
     record {
       standing = record { nodes = replicate g.nodes new; attempts = 0; successes = 0; slot = 0; shots = record { next = 0; taken = [] } };
-      shared = record { states = replicate g.nodes empty; counter = 0; starts = []; records = []; piggyback = Piggyback.None; nacks = 0; piggybacks = 0 };
+      shared = record { states = replicate g.nodes empty; counter = 0; starts = []; records = []; piggyback = None; nacks = 0; piggybacks = 0 };
       covered = 0;
       took_part = 0;
       rounds = [];

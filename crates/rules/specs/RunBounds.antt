@@ -4,7 +4,7 @@ use Rattle.config.specs.Limits.{max_terms, max_round_slots, most_rounds, count_b
 use Rattle.phy.specs.Round.{length_limit}
 use Rattle.metrics.specs.declared.summary.Summary.{Summary}
 use Rattle.config.specs.declared.Config.{Config}
-use Rattle.rules.specs.declared.answer.Answer.TheVariants.{Ran}
+use Rattle.std.specs.Prelude.{Ok}
 use Rattle.rules.specs.Run.{Given}
 use Rattle.rules.specs.Networks.{RowsOrTopology}
 use Rattle.rules.specs.Entries.{given_for, outcome_for}
@@ -54,5 +54,5 @@ pub record Bounds (g : Given) (s : Summary) : Type 0 where
 abbrev pub AllBounded : Type 0
 AllBounded =
     (q : RowsOrTopology) (c : Config) (logs records snapshots : List ℕ) (s : Summary) →
-    (outcome_for q c logs records snapshots).answer ≡ Ran s →
+    (outcome_for q c logs records snapshots).answer ≡ Ok s →
     Bounds (given_for q c) s

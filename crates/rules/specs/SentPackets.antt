@@ -1,9 +1,9 @@
 -- What holds of every packet of an accepted run (rule 12.7): it is of the run's nodes and of terms below 64, and its data is that of its terms.
-use Rattle.std.specs.Prelude.{ℕ, ◌^◌, ◌<◌, ◌≡◌}
+use Rattle.std.specs.Prelude.{ℕ, ◌^◌, ◌<◌, ◌≡◌, Option, Some, None}
 use Rattle.std.proofs.Math.Option.{some}
 use Rattle.std.proofs.Math.ListN.{get_elem?}
 use Rattle.config.specs.Limits.{max_terms}
-use Rattle.phy.specs.declared.packet.Nack.{Nack}
+use Rattle.network.specs.declared.units.Term.{Term}
 use Rattle.phy.specs.declared.packet.Packet.{Packet}
 use Rattle.protocol.specs.Growth.{OwnPacket}
 use Rattle.protocol.specs.View.{last_below, back_below}
@@ -11,9 +11,9 @@ use Rattle.rules.specs.Accepted.{Accepted}
 use Rattle.rules.specs.Run.{Given, Past, run}
 
 -- a NACK is none, or a term above 0 and below the bound
-abbrev pub nack_below : ℕ → Nack → Type 0
-nack_below bound Nack.None = Unit {0}
-nack_below bound (Nack.Of t) = (0 < t.0) × (t.0 < bound)
+abbrev pub nack_below : ℕ → Option Term → Type 0
+nack_below bound None = Unit {0}
+nack_below bound (Some t) = (0 < t.0) × (t.0 < bound)
 
 -- A packet that a run of n nodes may send.
 pub record SentPacket (n : ℕ) (p : Packet) : Type 0 where

@@ -3,14 +3,15 @@ use Rattle.std.specs.Prelude.{ℕ, ◌*◌, ◌≤◌, ◌<◌, List, ◌∷◌,
 use Rattle.std.proofs.Math.Option.{some}
 use Rattle.std.proofs.Math.ListN.{get_elem?}
 use Rattle.config.specs.Limits.{max_repeats}
+use Rattle.config.specs.declared.refusal.Refusal.{Refusal}
 use Rattle.config.specs.declared.Config.{Config}
-use Rattle.config.specs.declared.RoundSlots.{RoundSlots}
+use Rattle.std.specs.Prelude.{Some}
 use Rattle.metrics.specs.declared.summary.Summary.{Summary}
 use Rattle.network.specs.Questions.{within, first_no}
 use Rattle.phy.specs.Asleep.{InitiatorSlept, NobodySlept}
-use Rattle.rules.specs.declared.answer.Answer.TheVariants.{Ran}
+use Rattle.std.specs.Prelude.{Ok}
 use Rattle.rules.specs.Networks.{RowsOrTopology}
-use Rattle.rules.specs.Questions.{slots_allowed, slots_suffice, short_round, other_questions, config_questions}
+use Rattle.rules.specs.Questions.{slots_allowed, slots_suffice, other_questions, config_questions}
 use Rattle.rules.specs.Run.{Given, Past, run}
 use Rattle.rules.specs.Entries.{summary_of, given_for, outcome_for}
 
@@ -18,7 +19,7 @@ use Rattle.rules.specs.Entries.{summary_of, given_for, outcome_for}
 abbrev pub InitiatorsSleep : Type 0
 InitiatorsSleep =
     (q : RowsOrTopology) (c : Config) (logs records snapshots : List ℕ) (s : Summary) →
-    (outcome_for q c logs records snapshots).answer ≡ Ran s →
+    (outcome_for q c logs records snapshots).answer ≡ Ok s →
     (k : ℕ) (p : Past) → get_elem? (run (given_for q c)).running.rounds k ≡ some p →
     InitiatorSlept c.flood_repeats p.initiator p.before p.flooded
 
@@ -36,7 +37,7 @@ pub record Unfinished (g : Given) (longest : ℕ) : Type 0 where
 abbrev pub ShortRoundsUnfinished : Type 0
 ShortRoundsUnfinished =
     (g : Given) (longest : ℕ) →
-    1 ≤ g.nodes → g.round_slots ≡ RoundSlots.Of longest → longest < g.repeats →
+    1 ≤ g.nodes → g.round_slots ≡ Some longest → longest < g.repeats →
     Unfinished g longest
 
 -- ---- its place among the questions
@@ -47,7 +48,7 @@ EitherFirst =
     (c : Config) →
     first_no (config_questions c)
     ≡ first_no
-    ((within 1 max_repeats c.flood_repeats, 5)
-    ∷ (slots_suffice c.flood_repeats c.round_slots, short_round)
-    ∷ (slots_allowed c.round_slots, 6)
+    ((within 1 max_repeats c.flood_repeats, Refusal.RepeatCount)
+    ∷ (slots_suffice c.flood_repeats c.round_slots, Refusal.ShortRound)
+    ∷ (slots_allowed c.round_slots, Refusal.RoundLength)
     ∷ other_questions c)

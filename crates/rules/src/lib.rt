@@ -1,4 +1,4 @@
-// What a run is by the rules: its answer, the questions put to an input, the run's definition and the
+// What a run is by the rules: what is seen of it, the questions put to an input, the run's definition and the
 // theorems on it.
 #![tactic(auto)]
 
