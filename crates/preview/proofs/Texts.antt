@@ -1,16 +1,15 @@
 -- Every packet that a look ahead shows has a text. Assumes nothing.
 use Prim.Native.Nat.{ℕ, ◌≤◌}
 use mathlib.Core.Bool.{true}
-use mathlib.Core.Option.{Option, none, some}
+use mathlib.Core.Option as maybe
+use Rattle.std.specs.Prelude.{Option, Some, None, Ok}
 use mathlib.Core.Path.{◌≡◌, refl, subst}
 use native.Mathlib.Omega.{arith}
 use borrow.Author.Tests.{eq-eqb, le-leb, lt-ltb}
 use lib.ListN.{get_elem?}
 use Rattle.config.specs.Limits.{min_nodes, max_nodes, max_terms}
 use Rattle.network.specs.declared.units.Term.{Term}
-use Rattle.phy.specs.declared.packet.Data.{Data}
-use Rattle.phy.specs.declared.packet.LastAccepted.{LastAccepted}
-use Rattle.phy.specs.declared.packet.Nack.{Nack}
+use Rattle.config.specs.declared.refusal.Refusal.{Refusal}
 use Rattle.phy.specs.declared.packet.Packet.{Packet}
 use Rattle.phy.specs.declared.packet.Piggyback.{Piggyback}
 use Rattle.protocol.specs.Growth.{own_data, own_back}
@@ -24,26 +23,25 @@ use Rattle.rules.proofs.Admitted.{accepted_for}
 use Rattle.rules.proofs.SentPackets.{all_sent}
 use Rattle.wire.specs.Grammar.{last_accepted_fits, nack_fits, data_fits, piggyback_fits, has_text}
 use Rattle.wire.proofs.Fitting.{has_text_lem}
-use Rattle.preview.specs.declared.Preview.TheVariants.{Seen}
 use Rattle.preview.specs.Preview.{preview_as, preview_in, preview_unless, preview_for, SeenHaveTexts}
 
 -- ---- a packet that a run of n nodes may send has a text
 
-last_fits : (last : LastAccepted) → last_below max_terms last → last_accepted_fits last ≡ true
-last_fits LastAccepted.None h = refl
-last_fits (LastAccepted.At t) h = lt-ltb t.0 max_terms h
+last_fits : (last : Option Term) → last_below max_terms last → last_accepted_fits last ≡ true
+last_fits None h = refl
+last_fits (Some t) h = lt-ltb t.0 max_terms h
 
-nack_fits_lem : (asked : Nack) → nack_below max_terms asked → nack_fits asked ≡ true
-nack_fits_lem Nack.None h = refl
-nack_fits_lem (Nack.Of t) h = rw (le-leb 1 t.0 h.0, lt-ltb t.0 max_terms h.1)
+nack_fits_lem : (asked : Option Term) → nack_below max_terms asked → nack_fits asked ≡ true
+nack_fits_lem None h = refl
+nack_fits_lem (Some t) h = rw (le-leb 1 t.0 h.0, lt-ltb t.0 max_terms h.1)
 
-own_fits : (t : Term) (d : Data) → own_data t.0 d → data_fits t d ≡ true
-own_fits t Data.Empty h = refl
-own_fits t (Data.Of u) h = eq-eqb u.0 t.0 h
+own_fits : (t : Term) (d : Option Term) → own_data t.0 d → data_fits t d ≡ true
+own_fits t None h = refl
+own_fits t (Some u) h = eq-eqb u.0 t.0 h
 
-back_fits : (back : Piggyback) → back_below max_terms back → own_back back → piggyback_fits back ≡ true
-back_fits Piggyback.None h own = refl
-back_fits (Piggyback.Of t d) h own = rw (lt-ltb t.0 max_terms h.0, own) (eq-eqb t.0 t.0 refl)
+back_fits : (back : Option Piggyback) → back_below max_terms back → own_back back → piggyback_fits back ≡ true
+back_fits None h own = refl
+back_fits (Some again) h own = rw (lt-ltb again.term.0 max_terms h.0, own) (eq-eqb again.term.0 again.term.0 refl)
 
 sent_text : {n : ℕ} {p : Packet} → min_nodes ≤ n → n ≤ max_nodes → SentPacket n p → has_text n p ≡ true
 sent_text {n} {p} least most s =
@@ -65,12 +63,12 @@ seen_have_texts q c k seen e = asked (refusal_for q c) refl e
     g : Given
     g = given_for q c
 
-    found : Accepted g → (o : Option Past) → get_elem? (run g).running.rounds k ≡ o → preview_as o ≡ Seen seen → has_text g.nodes seen.packet ≡ true
-    found a none w e = absurd (let z : ◌≡◌ {A = ℕ} 0 1 = cc in omega arith)
-    found a (some p) w e =
+    found : Accepted g → (o : maybe.Option Past) → get_elem? (run g).running.rounds k ≡ o → preview_as o ≡ Ok seen → has_text g.nodes seen.packet ≡ true
+    found a maybe.none w e = absurd (let z : ◌≡◌ {A = ℕ} 0 1 = cc in omega arith)
+    found a (maybe.some p) w e =
         let packet : p.packet ≡ seen.packet = cc in
         subst (λ (x : Packet). has_text g.nodes x ≡ true) packet (sent_text a.two a.few (all_sent g a k p w))
 
-    asked : (o : Option ℕ) → refusal_for q c ≡ o → preview_unless o g k ≡ Seen seen → has_text g.nodes seen.packet ≡ true
-    asked none passes e = found (accepted_for q c passes) (get_elem? (run g).running.rounds k) refl e
-    asked (some question) passes e = absurd (let z : ◌≡◌ {A = ℕ} 0 1 = cc in omega arith)
+    asked : (o : Option Refusal) → refusal_for q c ≡ o → preview_unless o g k ≡ Ok seen → has_text g.nodes seen.packet ≡ true
+    asked None passes e = found (accepted_for q c passes) (get_elem? (run g).running.rounds k) refl e
+    asked (Some question) passes e = absurd (let z : ◌≡◌ {A = ℕ} 0 1 = cc in omega arith)

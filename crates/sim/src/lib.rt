@@ -1,4 +1,4 @@
-// The run of the pipeline: what it answers, what it leaves in the lent buffers, and its two entries.
+// The run of the pipeline: what it answers, what it leaves in the lent buffers, and its entry.
 #![tactic(auto)]
 
 pub mod buffers;

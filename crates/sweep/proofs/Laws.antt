@@ -3,12 +3,14 @@ use Prim.Native.Nat.{ℕ, zero, suc, ◌+◌, ◌*◌}
 use mathlib.Core.Path.{◌≡◌, refl, sym, ap, ◌∙◌}
 use mathlib.Core.List.{List, [], ◌∷◌, ◌++◌, map}
 use mathlib.Core.Logic.{⊎_elim}
-use mathlib.Core.Option.{Option, none, some}
+use mathlib.Core.Option.{some}
+use Rattle.std.specs.Prelude.{Option, Some, None, Result, Ok, Err}
 use native.Mathlib.Omega.{arith}
 use borrow.Author.Tests.{le-leb}
 use lib.ListN.{length, get_elem?, take, drop, length-map}
 use lib.Seq.{sets, length-sets, sets-eq, drop_at}
 use Rattle.config.specs.Limits.{most_rounds}
+use Rattle.config.specs.declared.refusal.Refusal.{Refusal}
 use Rattle.metrics.specs.declared.summary.Summary.{Summary}
 use Rattle.network.specs.Questions.{first_no}
 use Rattle.network.proofs.Within.{first_no_lem, all_yes}
@@ -18,20 +20,18 @@ use Rattle.rules.specs.Entries.{given_for}
 use Rattle.rules.proofs.Admitted.{admits, refused_for}
 use Rattle.rules.proofs.FirstNo.{both_none, either_no}
 use Rattle.rules.proofs.FirstRounds.{few_rounds}
-use Rattle.sweep.specs.declared.Sweep.{Sweep}
-use Rattle.sweep.specs.declared.Sweep.TheVariants.{Swept, Refused}
 use Rattle.sweep.specs.Sweep.{swept_size, with_seed, summary_in, summary_for, swept_lines, rounds_of, table_questions, sweep_questions, sweep_refusal_for, swept_unless, sweep_for}
 use Rattle.sweep.specs.Laws.{rounds_shown, AllSwept, LinesAlone, OwnSeedUnused, NoSeeds, RefusalsSwept}
 use Rattle.sweep.proofs.Asked.{table_facts, network_refuses, network_passes, refused}
 use Rattle.sweep.proofs.Lines.{length_lines, line_at, rounds_shown_lem, rounds_most}
 
-swept_so : (o : Option ℕ) (runs : List Summary) (table : List ℕ) (rounds : ℕ) (after : List ℕ) → ◌≡◌ {A = Sweep × List ℕ} (swept_unless o runs table) (Swept rounds, after)
-    → (o ≡ none) × (rounds_of runs ≡ rounds) × (sets table 0 (swept_lines runs) ≡ after)
-swept_so none runs table rounds after e =
-    let answer : Swept (rounds_of runs) ≡ Swept rounds = ap (λ (p : Sweep × List ℕ). p.0) e in
-    (refl, cc, ap (λ (p : Sweep × List ℕ). p.1) e)
-swept_so (some question) runs table rounds after e =
-    let answer : Refused question ≡ Swept rounds = ap (λ (p : Sweep × List ℕ). p.0) e in
+swept_so : (o : Option Refusal) (runs : List Summary) (table : List ℕ) (rounds : ℕ) (after : List ℕ) → ◌≡◌ {A = Result ℕ Refusal × List ℕ} (swept_unless o runs table) (Ok rounds, after)
+    → (o ≡ None) × (rounds_of runs ≡ rounds) × (sets table 0 (swept_lines runs) ≡ after)
+swept_so None runs table rounds after e =
+    let answer : ◌≡◌ {A = Result ℕ Refusal} (Ok (rounds_of runs)) (Ok rounds) = ap (λ (p : Result ℕ Refusal × List ℕ). p.0) e in
+    (refl, cc, ap (λ (p : Result ℕ Refusal × List ℕ). p.1) e)
+swept_so (Some question) runs table rounds after e =
+    let answer : ◌≡◌ {A = Result ℕ Refusal} (Err question) (Ok rounds) = ap (λ (p : Result ℕ Refusal × List ℕ). p.0) e in
     absurd (let z : ◌≡◌ {A = ℕ} 0 1 = cc in omega arith)
 
 elem_map : (f : ℕ → Summary) (seeds : List ℕ) (i seed : ℕ) → get_elem? seeds i ≡ some seed → get_elem? (map f seeds) i ≡ some (f seed)
@@ -75,8 +75,8 @@ unfolding sweep_for sweep_refusal_for refusal_for swept_lines rounds_of
 no_seeds q c table e =
     let yes = both_none (network_questions q) (config_questions c) e in
     let rest = table_questions 0 (length table) in
-    let room : first_no rest ≡ none = rw (le-leb 0 (length table) (omega arith)) in
-    ap (λ (o : Option ℕ). swept_unless o [] table)
+    let room : first_no rest ≡ None = rw (le-leb 0 (length table) (omega arith)) in
+    ap (λ (o : Option Refusal). swept_unless o [] table)
     (all_yes (network_questions q) (sweep_questions c 0 (length table)) yes.0 ∙ all_yes (config_questions c) rest yes.1 ∙ room)
 
 pub refusals_swept : RefusalsSwept

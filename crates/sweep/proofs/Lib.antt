@@ -1,5 +1,4 @@
 -- The laws of sweeps, and what stands behind the functions.
-pub mod Clears
 pub mod Seeds
 pub mod Lines
 pub mod Asked

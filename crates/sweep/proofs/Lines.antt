@@ -11,6 +11,8 @@ use lib.Seq.{sets, length-sets, length-take-le, take_all, take-suc, drop-drop}
 use Rattle.config.specs.Limits.{max_terms, most_rounds}
 use Rattle.metrics.specs.declared.summary.Summary.{Summary}
 use Rattle.phy.proofs.Snapshots.{sets_append}
+use Rattle.protocol.specs.declared.state.PaxosState.{PaxosState}
+use Rattle.pipeline.specs.declared.records.History.{History}
 use Rattle.pipeline.specs.View.{Blank}
 use Rattle.rounds.specs.declared.run.Plan.{Plan}
 use Rattle.sweep.specs.Sweep.{swept_size, swept_line, swept_lines, rounds_of}
@@ -45,16 +47,16 @@ length_lines f (x ∷ seeds) = omega (arith, length_lines f seeds)
 
 -- ---- what is swept so far
 
-module _ {graph : List ℕ} {p : Plan} {seeds table : List ℕ} where
-  pub swept_none : {states history : List ℕ} → Blank p.nodes states history → SweptTo graph p seeds table 0 0 states history table
+module _ {p : Plan} {seeds table : List ℕ} where
+  pub swept_none : {states : List PaxosState} {history : History} → Blank p.network.graph.nodes states history → SweptTo p seeds table 0 0 states history table
   unfolding rounds_of swept_lines
   swept_none blank = record { within = omega arith; few = omega arith; sweeps = record { sum = refl; lines = refl }; blank = blank }
 
-  pub swept_more : {i rounds : ℕ} {states history table' states' history' table'' : List ℕ} {s : Summary} → SweptTo graph p seeds table i rounds states history table' → i < length seeds
-      → s ≡ summary_with graph p (get_or seeds i 0) → s.rounds ≤ most_rounds max_terms → Blank p.nodes states' history' → table'' ≡ sets table' (swept_size * i) (swept_line s)
-      → SweptTo graph p seeds table (i + 1) (rounds + s.rounds) states' history' table''
-  swept_more {i} {rounds} {states} {history} {table'} {states'} {history'} {table''} {s} done h e few blank put =
-      let f = summary_with graph p in
+  pub swept_more : {i rounds : ℕ} {states states' : List PaxosState} {history history' : History} {table' table'' : List ℕ} {s : Summary} → SweptTo p seeds table i rounds states history table' → i < length seeds
+      → s ≡ summary_with p (get_or seeds i 0) → s.rounds ≤ most_rounds max_terms → Blank p.network.graph.nodes states' history' → table'' ≡ sets table' (swept_size * i) (swept_line s)
+      → SweptTo p seeds table (i + 1) (rounds + s.rounds) states' history' table''
+  swept_more {i} {rounds} {s = s} done h e few blank put =
+      let f = summary_with p in
       let runs = map f (take i seeds) in
       let more : map f (take (i + 1) seeds) ≡ runs ++ (s ∷ []) = runs_more f seeds i h ∙ ap (λ (x : Summary). runs ++ (x ∷ [])) (sym e) in
       let place : swept_size * i ≡ 0 + length (swept_lines runs) = omega (arith, length_lines f (take i seeds), length-take-le i seeds done.within) in
@@ -73,12 +75,12 @@ module _ {graph : List ℕ} {p : Plan} {seeds table : List ℕ} where
       }
 
   -- the table is as long as it was
-  pub swept_size_lem : {i rounds : ℕ} {states history table' : List ℕ} → SweptTo graph p seeds table i rounds states history table' → length table' ≡ length table
-  swept_size_lem {i} done = ap length done.sweeps.lines ∙ length-sets table 0 (swept_lines (map (summary_with graph p) (take i seeds)))
+  pub swept_size_lem : {i rounds : ℕ} {states : List PaxosState} {history : History} {table' : List ℕ} → SweptTo p seeds table i rounds states history table' → length table' ≡ length table
+  swept_size_lem {i} done = ap length done.sweeps.lines ∙ length-sets table 0 (swept_lines (map (summary_with p) (take i seeds)))
 
-  pub swept_all : {i rounds : ℕ} {states history table' : List ℕ} → SweptTo graph p seeds table i rounds states history table' → length seeds ≤ i → Sweeps graph p seeds table rounds table'
+  pub swept_all : {i rounds : ℕ} {states : List PaxosState} {history : History} {table' : List ℕ} → SweptTo p seeds table i rounds states history table' → length seeds ≤ i → Sweeps p seeds table rounds table'
   swept_all {i} {rounds} {states} {history} {table'} done h =
-      subst (λ (l : List ℕ). Sweeps graph p l table rounds table') (take_all i seeds h) done.sweeps
+      subst (λ (l : List ℕ). Sweeps p l table rounds table') (take_all i seeds h) done.sweeps
 
 -- ---- a table whose first lines are these
 

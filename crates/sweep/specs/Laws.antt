@@ -1,15 +1,13 @@
 -- The laws of sweeps (rule 12.8).
-use Rattle.std.specs.Prelude.{ℕ, zero, suc, ◌+◌, ◌*◌, ◌≤◌, List, [], ◌≡◌, length, get_or, take, drop}
-use Rattle.std.proofs.Math.Option.{none, some}
+use Rattle.std.specs.Prelude.{ℕ, zero, suc, ◌+◌, ◌*◌, ◌≤◌, List, [], ◌≡◌, length, get_or, take, drop, None, Result, Ok, Err}
+use Rattle.std.proofs.Math.Option.{some}
 use Rattle.std.proofs.Math.ListN.{get_elem?}
 use Rattle.config.specs.declared.Config.{Config}
+use Rattle.config.specs.declared.refusal.Refusal.{Refusal}
 use Rattle.config.specs.Limits.{log_size, records_size, most_rounds}
-use Rattle.rules.specs.declared.answer.Answer.TheVariants.{Ran, Refused as Answer-as-Refused}
 use Rattle.rules.specs.Networks.{RowsOrTopology}
 use Rattle.rules.specs.Questions.{refusal_for}
 use Rattle.rules.specs.Entries.{outcome_for}
-use Rattle.sweep.specs.declared.Sweep.{Sweep}
-use Rattle.sweep.specs.declared.Sweep.TheVariants.{Swept, Refused}
 use Rattle.sweep.specs.Sweep.{swept_size, swept_line, with_seed, summary_for, sweep_for}
 
 -- line i of a table
@@ -23,14 +21,14 @@ rounds_shown (suc n) table = get_or table 0 0 + rounds_shown n (drop swept_size 
 
 -- the sweep of these seeds was not refused; it answered with these rounds and left this table
 abbrev pub WasSwept : RowsOrTopology → Config → List ℕ → List ℕ → ℕ → List ℕ → Type 0
-WasSwept q c seeds table rounds after = ◌≡◌ {A = Sweep × List ℕ} (sweep_for q c seeds table) (Swept rounds, after)
+WasSwept q c seeds table rounds after = ◌≡◌ {A = Result ℕ Refusal × List ℕ} (sweep_for q c seeds table) (Ok rounds, after)
 
 pub record SweptSeeds (q : RowsOrTopology) (c : Config) (seeds table : List ℕ) (rounds : ℕ) (after : List ℕ) : Type 0 where
   -- line i is that of the run of seed i
   pub lines : (i seed : ℕ) → get_elem? seeds i ≡ some seed → swept_line_in after i ≡ swept_line (summary_for q c seed)
   -- which is what the run's entry answers for this seed alone, with any buffers that are long enough
   pub alone : (seed : ℕ) (logs records snapshots : List ℕ) → log_size ≤ length logs → records_size ≤ length records
-      → (outcome_for q (with_seed c seed) logs records snapshots).answer ≡ Ran (summary_for q c seed)
+      → (outcome_for q (with_seed c seed) logs records snapshots).answer ≡ Ok (summary_for q c seed)
   -- the table is as long as it was, and behind the lines nothing has changed
   pub size : length after ≡ length table
   pub behind : drop (swept_size * length seeds) after ≡ drop (swept_size * length seeds) table
@@ -56,16 +54,16 @@ LinesAlone =
 -- the configuration's own seed is not used
 abbrev pub OwnSeedUnused : Type 0
 OwnSeedUnused =
-    (q : RowsOrTopology) (c : Config) (own : ℕ) (seeds table : List ℕ) → ◌≡◌ {A = Sweep × List ℕ} (sweep_for q (with_seed c own) seeds table) (sweep_for q c seeds table)
+    (q : RowsOrTopology) (c : Config) (own : ℕ) (seeds table : List ℕ) → ◌≡◌ {A = Result ℕ Refusal × List ℕ} (sweep_for q (with_seed c own) seeds table) (sweep_for q c seeds table)
 
 -- a sweep of no seed: no line, and 0 rounds
 abbrev pub NoSeeds : Type 0
-NoSeeds = (q : RowsOrTopology) (c : Config) (table : List ℕ) → refusal_for q c ≡ none → WasSwept q c [] table 0 table
+NoSeeds = (q : RowsOrTopology) (c : Config) (table : List ℕ) → refusal_for q c ≡ None → WasSwept q c [] table 0 table
 
 -- What refuses a run of some seed, and not for its buffers, refuses every sweep by the same number.
 abbrev pub RefusalsSwept : Type 0
 RefusalsSwept =
-    (q : RowsOrTopology) (c : Config) (seed : ℕ) (logs records snapshots : List ℕ) (question : ℕ) →
-    (outcome_for q (with_seed c seed) logs records snapshots).answer ≡ Answer-as-Refused question →
-    (question ≡ 10 → ⊥) →
-    (seeds table : List ℕ) → ◌≡◌ {A = Sweep × List ℕ} (sweep_for q c seeds table) (Refused question, table)
+    (q : RowsOrTopology) (c : Config) (seed : ℕ) (logs records snapshots : List ℕ) (question : Refusal) →
+    (outcome_for q (with_seed c seed) logs records snapshots).answer ≡ Err question →
+    (question ≡ Refusal.ShortBuffers → ⊥) →
+    (seeds table : List ℕ) → ◌≡◌ {A = Result ℕ Refusal × List ℕ} (sweep_for q c seeds table) (Err question, table)

@@ -1,16 +1,14 @@
 -- A sweep: one configuration over a list of seeds (rules 6.12, 7.8, 9.2 and 9.3).
-use Rattle.std.specs.Prelude.{ℕ, ◌+◌, ◌*◌, Bool, ◌&&◌, List, [], ◌∷◌, ◌++◌, map, leb, length}
-use Rattle.std.proofs.Math.Option.{Option, none, some}
+use Rattle.std.specs.Prelude.{ℕ, ◌+◌, ◌*◌, Bool, ◌&&◌, List, [], ◌∷◌, ◌++◌, map, leb, length, Option, Some, None, Result, Ok, Err}
 use Rattle.std.proofs.lemmas.List.Edits.{sets}
 use Rattle.config.specs.declared.Config.{Config}
+use Rattle.config.specs.declared.refusal.Refusal.{Refusal}
 use Rattle.metrics.specs.declared.summary.Summary.{Summary}
 use Rattle.network.specs.Questions.{first_no}
 use Rattle.rules.specs.Networks.{RowsOrTopology, network_questions}
 use Rattle.rules.specs.Questions.{config_questions}
 use Rattle.rules.specs.Run.{Given, run}
 use Rattle.rules.specs.Entries.{summary_of, given_for}
-use Rattle.sweep.specs.declared.Sweep.{Sweep}
-use Rattle.sweep.specs.declared.Sweep.TheVariants.{Swept, Refused}
 
 -- ---- a line
 
@@ -61,26 +59,26 @@ abbrev pub max_seeds : ℕ
 max_seeds = 65536
 
 -- question 15, for so many seeds and a table of this length
-abbrev pub table_questions : ℕ → ℕ → List (Bool × ℕ)
-table_questions seeds table = (leb seeds max_seeds && leb (swept_size * seeds) table, 15) ∷ []
+abbrev pub table_questions : ℕ → ℕ → List (Bool × Refusal)
+table_questions seeds table = (leb seeds max_seeds && leb (swept_size * seeds) table, Refusal.SweepTable) ∷ []
 
 -- the questions of the configuration, then 15
-abbrev pub sweep_questions : Config → ℕ → ℕ → List (Bool × ℕ)
+abbrev pub sweep_questions : Config → ℕ → ℕ → List (Bool × Refusal)
 sweep_questions c seeds table = config_questions c ++ table_questions seeds table
 
 -- the refusal of a sweep: the questions of the network, of the configuration, then 15
-unfoldable pub sweep_refusal_for : RowsOrTopology → Config → ℕ → ℕ → Option ℕ
+unfoldable pub sweep_refusal_for : RowsOrTopology → Config → ℕ → ℕ → Option Refusal
 sweep_refusal_for q c seeds table = first_no (network_questions q ++ sweep_questions c seeds table)
 
 -- the sweep of these runs: the sum of their rounds, and their lines from the table's first place on; other places stay
-abbrev pub swept : List Summary → List ℕ → Sweep × List ℕ
-swept runs table = (Swept (rounds_of runs), sets table 0 (swept_lines runs))
+abbrev pub swept : List Summary → List ℕ → Result ℕ Refusal × List ℕ
+swept runs table = (Ok (rounds_of runs), sets table 0 (swept_lines runs))
 
 -- a refusal leaves the table as it was
-abbrev pub swept_unless : Option ℕ → List Summary → List ℕ → Sweep × List ℕ
-swept_unless none runs table = swept runs table
-swept_unless (some question) runs table = (Refused question, table)
+abbrev pub swept_unless : Option Refusal → List Summary → List ℕ → Result ℕ Refusal × List ℕ
+swept_unless None runs table = swept runs table
+swept_unless (Some question) runs table = (Err question, table)
 
 -- the sweep that is asked for, of rows or of a topology; the configuration's own seed is not used
-unfoldable pub sweep_for : RowsOrTopology → Config → List ℕ → List ℕ → Sweep × List ℕ
+unfoldable pub sweep_for : RowsOrTopology → Config → List ℕ → List ℕ → Result ℕ Refusal × List ℕ
 sweep_for q c seeds table = swept_unless (sweep_refusal_for q c (length seeds) (length table)) (map (summary_for q c) seeds) table

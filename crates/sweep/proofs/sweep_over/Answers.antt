@@ -4,7 +4,7 @@ use Rattle.sweep.proofs.Lines.{swept_none, swept_more, swept_all}
 use Rattle.sweep.proofs.sweep_over.Goals as goal
 
 pub loop-i-init : goal.loop-i-init
-loop-i-init c = swept_none (zeros_blank c.args.plan.nodes c.requires.1)
+loop-i-init c = swept_none (zeros_blank c.args.plan.now.network.graph.nodes c.requires.1)
 
 pub run_seed-summary-requires : goal.run_seed-summary-requires
 run_seed-summary-requires c = (c.requires.0.accepted, c.loop-i.invariant.blank)
