@@ -1,4 +1,5 @@
 -- Arrays as the code lays them: the flags behind a bracket or a comma each, and the digits of a term's data. Assumes nothing.
+use Rattle.std.specs.Prelude.{Some}
 use Prim.Native.Nat.{ℕ, zero, suc, ◌+◌, ◌/◌, ◌%◌, ◌≤◌, ◌<◌}
 use mathlib.Core.Path.{◌≡◌, refl, sym}
 use mathlib.Core.List.{List, [], ◌∷◌, ◌++◌, append_assoc, append-nil}
@@ -7,7 +8,6 @@ use Rattle.random.specs.Table.{tabulate}
 use Rattle.network.specs.Graph.{has}
 use Rattle.text.specs.Text.{ascii, spelled_in, spelled, each}
 use Rattle.text.proofs.Spelling.{spelled_low, spelled_high}
-use Rattle.phy.specs.declared.packet.Data.{Data}
 use Rattle.network.specs.declared.units.Term.{Term}
 use Rattle.wire.specs.Grammar.{array, behind_commas, data_bytes, data_text, flag_text, flags_text}
 use Rattle.wire.specs.View.{mark, marked_flag, digit_text, digits_text}
@@ -60,6 +60,6 @@ unfolding spelled spelled_in
 spelled_120 = refl
 
 -- the text of a term's data
-pub data_text_lem : (t : Term) → data_text (Data.Of t) ≡ ascii "[116,120" ++ digits_text t.0 ++ ascii "]"
+pub data_text_lem : (t : Term) → data_text (Some t) ≡ ascii "[116,120" ++ digits_text t.0 ++ ascii "]"
 unfolding data_text array behind_commas data_bytes ascii
 data_text_lem t = simp (spelled_116, spelled_120, append_assoc)

@@ -1,4 +1,5 @@
 -- What a packet that has a text fits, as facts. Assumes nothing.
+use Rattle.std.specs.Prelude.{Option, Some, None}
 use Prim.Native.Nat.{ℕ, ◌^◌, ◌≤◌, ◌<◌}
 use mathlib.Core.Path.{◌≡◌, refl}
 use mathlib.Core.Bool.{true}
@@ -7,7 +8,6 @@ use borrow.Author.Tests.{eqb-true, le-leb, leb-true, lt-ltb, ltb-true}
 use Rattle.config.specs.Limits.{max_nodes, max_terms, min_nodes}
 use Rattle.network.specs.declared.units.Term.{Term}
 use Rattle.network.proofs.Sets.{and_both}
-use Rattle.phy.specs.declared.packet.Data.{Data}
 use Rattle.phy.specs.declared.packet.Packet.{Packet}
 use Rattle.wire.specs.Grammar.{data_fits, flags_fit, has_text, last_accepted_fits, nack_fits, piggyback_fits, terms_fit}
 use Rattle.wire.specs.View.{data_below}
@@ -68,6 +68,6 @@ has_text_lem n p f g =
     rw (least, most, set, sender, current, g.last, g.nack, g.own, g.again)
 
 -- data of a term below 64
-pub data_below_lem : (t : Term) (d : Data) → t.0 < max_terms → data_fits t d ≡ true → data_below d ≡ true
-data_below_lem t Data.Empty h e = refl
-data_below_lem t (Data.Of u) h e = lt-ltb u.0 64 (omega (arith, eqb-true u.0 t.0 e))
+pub data_below_lem : (t : Term) (d : Option Term) → t.0 < max_terms → data_fits t d ≡ true → data_below d ≡ true
+data_below_lem t None h e = refl
+data_below_lem t (Some u) h e = lt-ltb u.0 64 (omega (arith, eqb-true u.0 t.0 e))

@@ -1,4 +1,5 @@
 -- How long a text is at most. Assumes nothing.
+use Rattle.std.specs.Prelude.{Option, Some, None}
 use Prim.Native.Nat.{ℕ, zero, suc, ◌+◌, ◌*◌, ◌/◌, ◌%◌, ◌≤◌, ◌<◌}
 use mathlib.Core.Path.{◌≡◌, refl}
 use mathlib.Core.Bool.{Bool, true, false}
@@ -8,12 +9,10 @@ use native.Mathlib.Omega.{arith}
 use lib.Dec.{leb, ltb}
 use lib.ListN.{length, length-append}
 use borrow.Author.Tests.{ltb-true, ltb-false}
+use Rattle.network.specs.declared.units.Term.{Term}
 use Rattle.config.specs.Limits.{max_nodes}
 use Rattle.network.specs.Graph.{has}
 use Rattle.network.proofs.Sets.{and_both}
-use Rattle.phy.specs.declared.packet.LastAccepted.{LastAccepted}
-use Rattle.phy.specs.declared.packet.Nack.{Nack}
-use Rattle.phy.specs.declared.packet.Data.{Data}
 use Rattle.phy.specs.declared.packet.Piggyback.{Piggyback}
 use Rattle.phy.specs.declared.packet.Packet.{Packet}
 use Rattle.text.specs.Text.{ascii, spelled, each}
@@ -28,14 +27,14 @@ use Rattle.wire.proofs.Fitting.{FlagsFit, TermsFit, data_below_lem, fitting}
 small : (n : ℕ) → n < 100 → length (spelled n) ≤ small_most
 small n h = spelled_short 2 n (omega arith) (omega arith)
 
-last_accepted_size : (a : LastAccepted) → last_accepted_fits a ≡ true → length (last_accepted_text a) ≤ null_most
+last_accepted_size : (a : Option Term) → last_accepted_fits a ≡ true → length (last_accepted_text a) ≤ null_most
 unfolding ascii
-last_accepted_size LastAccepted.None h = omega arith
-last_accepted_size (LastAccepted.At t) h = omega (arith, small t.0 (omega (arith, ltb-true t.0 64 h)))
+last_accepted_size None h = omega arith
+last_accepted_size (Some t) h = omega (arith, small t.0 (omega (arith, ltb-true t.0 64 h)))
 
-nack_size : (a : Nack) → nack_fits a ≡ true → length (spelled (nack_number a)) ≤ small_most
-nack_size Nack.None h = small 0 (omega arith)
-nack_size (Nack.Of t) h = small t.0 (omega (arith, ltb-true t.0 64 (and_both (leb 1 t.0) (ltb t.0 64) h).1))
+nack_size : (a : Option Term) → nack_fits a ≡ true → length (spelled (nack_number a)) ≤ small_most
+nack_size None h = small 0 (omega arith)
+nack_size (Some t) h = small t.0 (omega (arith, ltb-true t.0 64 (and_both (leb 1 t.0) (ltb t.0 64) h).1))
 
 -- a flag, with the mark in front of it
 flag_size : (s i : ℕ) → length (marked_flag s i) ≤ flag_most
@@ -75,20 +74,21 @@ digits_size t h = case (ltb t 10) refl
         rw (digits_two t (ltb-false t 10 e) h)
         (omega (arith, length-append (digit_text (t / 10)) (digit_text (t % 10)), digit_size (t / 10) (omega arith), digit_size (t % 10) (omega arith)))
 
-data_size : (d : Data) → data_below d ≡ true → length (data_text d) ≤ data_most
+data_size : (d : Option Term) → data_below d ≡ true → length (data_text d) ≤ data_most
 unfolding ascii data_text array
-data_size Data.Empty h = omega arith
-data_size (Data.Of t) h =
+data_size None h = omega arith
+data_size (Some t) h =
     let low = ltb-true t.0 64 h in
     rw (data_text_lem t) (simp length-append (omega (arith, digits_size t.0 (omega arith))))
 
-piggyback_size : (b : Piggyback) → piggyback_fits b ≡ true → length (piggyback_text b) ≤ piggyback_most
+piggyback_size : (b : Option Piggyback) → piggyback_fits b ≡ true → length (piggyback_text b) ≤ piggyback_most
 unfolding ascii piggyback_text data_text array
-piggyback_size Piggyback.None h = omega arith
-piggyback_size (Piggyback.Of t d) h =
-    let both = and_both (ltb t.0 64) (data_fits t d) h in
-    let low = ltb-true t.0 64 both.0 in
-    simp length-append (omega (arith, small t.0 (omega arith), data_size d (data_below_lem t d low both.1)))
+piggyback_size None h = omega arith
+piggyback_size (Some again) h =
+    let both = and_both (ltb again.term.0 64) (data_fits again.term again.«data») h in
+    let low = ltb-true again.term.0 64 both.0 in
+    simp length-append
+    (omega (arith, small again.term.0 (omega arith), data_size again.«data» (data_below_lem again.term again.«data» low both.1)))
 
 header_size : (n : ℕ) (p : Packet) → FlagsFit n p → TermsFit p → length (header_text n p) ≤ header_most
 unfolding ascii header_text

@@ -1,12 +1,9 @@
 -- Which packets have a text, and what it is (rules 15.1 to 15.4). A packet goes with its number of flags n.
-use Rattle.std.specs.Prelude.{ℕ, ◌+◌, ◌*◌, ◌^◌, Bool, true, false, ◌&&◌, List, [], ◌∷◌, ◌++◌, map, leb, ltb, eqb}
+use Rattle.std.specs.Prelude.{ℕ, ◌+◌, ◌*◌, ◌^◌, Bool, true, false, ◌&&◌, List, [], ◌∷◌, ◌++◌, map, leb, ltb, eqb, Option, Some, None}
 use Rattle.config.specs.Limits.{min_nodes, max_nodes, max_terms}
 use Rattle.random.specs.Table.{tabulate}
 use Rattle.network.specs.Graph.{has}
 use Rattle.network.specs.declared.units.Term.{Term}
-use Rattle.phy.specs.declared.packet.LastAccepted.{LastAccepted}
-use Rattle.phy.specs.declared.packet.Nack.{Nack}
-use Rattle.phy.specs.declared.packet.Data.{Data}
 use Rattle.phy.specs.declared.packet.Piggyback.{Piggyback}
 use Rattle.phy.specs.declared.packet.Packet.{Packet}
 use Rattle.text.specs.Text.{ascii, spelled}
@@ -14,24 +11,24 @@ use Rattle.text.specs.Text.{ascii, spelled}
 -- ---- which packets have a text
 
 -- the last accepted term is none, or below 64
-abbrev pub last_accepted_fits : LastAccepted → Bool
-last_accepted_fits LastAccepted.None = true
-last_accepted_fits (LastAccepted.At t) = ltb t.0 max_terms
+abbrev pub last_accepted_fits : Option Term → Bool
+last_accepted_fits None = true
+last_accepted_fits (Some t) = ltb t.0 max_terms
 
 -- a NACK is none, or a term above 0 and below 64
-abbrev pub nack_fits : Nack → Bool
-nack_fits Nack.None = true
-nack_fits (Nack.Of t) = leb 1 t.0 && ltb t.0 max_terms
+abbrev pub nack_fits : Option Term → Bool
+nack_fits None = true
+nack_fits (Some t) = leb 1 t.0 && ltb t.0 max_terms
 
 -- data is empty, or that of the term
-abbrev pub data_fits : Term → Data → Bool
-data_fits t Data.Empty = true
-data_fits t (Data.Of u) = eqb u.0 t.0
+abbrev pub data_fits : Term → Option Term → Bool
+data_fits t None = true
+data_fits t (Some u) = eqb u.0 t.0
 
 -- a piggyback is none, or a term below 64 and data that is empty or that of its own term
-abbrev pub piggyback_fits : Piggyback → Bool
-piggyback_fits Piggyback.None = true
-piggyback_fits (Piggyback.Of t d) = ltb t.0 max_terms && data_fits t d
+abbrev pub piggyback_fits : Option Piggyback → Bool
+piggyback_fits None = true
+piggyback_fits (Some again) = ltb again.term.0 max_terms && data_fits again.term again.«data»
 
 -- n is 2 to 32, no flag stands at or above n, and the sender is below n
 abbrev pub flags_fit : ℕ → Packet → Bool
@@ -71,24 +68,24 @@ unfoldable pub flags_text : ℕ → ℕ → List ℕ
 flags_text n s = array (tabulate n (λ i. flag_text (has s i)))
 
 -- a term, or `null`
-abbrev pub last_accepted_text : LastAccepted → List ℕ
-last_accepted_text LastAccepted.None = ascii "null"
-last_accepted_text (LastAccepted.At t) = spelled t.0
+abbrev pub last_accepted_text : Option Term → List ℕ
+last_accepted_text None = ascii "null"
+last_accepted_text (Some t) = spelled t.0
 
 -- the term of a NACK, or 0 where there is none
-abbrev pub nack_number : Nack → ℕ
-nack_number Nack.None = 0
-nack_number (Nack.Of t) = t.0
+abbrev pub nack_number : Option Term → ℕ
+nack_number None = 0
+nack_number (Some t) = t.0
 
 -- the bytes of the data, each in decimal
-unfoldable pub data_text : Data → List ℕ
-data_text Data.Empty = array []
-data_text (Data.Of t) = array (map spelled (data_bytes t.0))
+unfoldable pub data_text : Option Term → List ℕ
+data_text None = array []
+data_text (Some t) = array (map spelled (data_bytes t.0))
 
 -- a piggyback's term and data, or `null` and no data
-unfoldable pub piggyback_text : Piggyback → List ℕ
-piggyback_text Piggyback.None = ascii "null" ++ ascii ",\"piggyback_data\":" ++ data_text Data.Empty
-piggyback_text (Piggyback.Of t d) = spelled t.0 ++ ascii ",\"piggyback_data\":" ++ data_text d
+unfoldable pub piggyback_text : Option Piggyback → List ℕ
+piggyback_text None = ascii "null" ++ ascii ",\"piggyback_data\":" ++ data_text None
+piggyback_text (Some again) = spelled again.term.0 ++ ascii ",\"piggyback_data\":" ++ data_text again.«data»
 
 -- the fields up to the sender
 unfoldable pub header_text : ℕ → Packet → List ℕ

@@ -1,9 +1,9 @@
 -- What the code's parts of the writer lay.
-use Rattle.std.specs.Prelude.{ℕ, zero, suc, ◌+◌, Bool, true, List, ◌++◌, map, ltb}
+use Rattle.std.specs.Prelude.{ℕ, zero, suc, ◌+◌, Bool, true, List, ◌++◌, map, ltb, Option, Some, None}
 use Rattle.config.specs.Limits.{max_terms}
 use Rattle.network.specs.Graph.{has}
+use Rattle.network.specs.declared.units.Term.{Term}
 use Rattle.text.specs.Text.{ascii, spelled}
-use Rattle.phy.specs.declared.packet.Data.{Data}
 use Rattle.wire.specs.Grammar.{behind_commas, flag_text}
 
 -- what stands in front of flag i: the bracket or a comma
@@ -23,6 +23,6 @@ abbrev pub digits_text : ℕ → List ℕ
 digits_text t = behind_commas (map spelled (spelled t))
 
 -- data is that of a term below 64
-abbrev pub data_below : Data → Bool
-data_below Data.Empty = true
-data_below (Data.Of t) = ltb t.0 max_terms
+abbrev pub data_below : Option Term → Bool
+data_below None = true
+data_below (Some t) = ltb t.0 max_terms

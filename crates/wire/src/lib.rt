@@ -4,36 +4,33 @@
 mod fits;
 pub mod put;
 
-ghost use Rattle.std.specs.Prelude.{◌≡◌, List, ℕ};
+ghost use Rattle.std.specs.Prelude.{◌≡◌, List, Result, ℕ};
+ghost use Rattle.config.specs.declared.refusal.Refusal.{Refusal};
 ghost use Rattle.wire.specs.Writing.{writing};
 
+use config::refusal::Refusal;
 use fits::has_text;
 use phy::packet::Packet;
 use put::{TEXT_SIZE, put_packet};
-use text::overlay::copy;
-
-// What the writer answers: how many bytes the text has, or the refusal with its number.
-#[derive(Clone, Copy)]
-pub enum Writing {
-    Text(usize),
-    Refused(u64),
-}
-
-// The bytes are no packet's text, the packet has no text, or the buffer is too short for it.
-pub const NO_TEXT: u64 = 14;
+use text::overlay::{Overlay, copy};
 
 // Writes a packet's text to the start of a buffer. A refusal writes nothing.
-pub fn write_packet(packet: Packet, flags: u64, out: &mut [u8]) -> Writing
-    ensures { ◌≡◌ {A = Writing × List ℕ} (result, out.new) (writing packet flags out.old) }
+pub fn write_packet(packet: Packet, flags: u64, out: &mut [u8]) -> Result<usize, Refusal>
+    ensures { ◌≡◌ {A = Result ℕ Refusal × List ℕ} (result, out.new) (writing packet flags out.old) }
 {
     if !has_text(packet, flags) {
-        return Writing::Refused(NO_TEXT);
+        return Err(Refusal::NoText);
     }
     let mut text = [0u8; TEXT_SIZE];
-    let size = put_packet(packet, flags as usize, &mut text, 0);
+    let mut over = Overlay {
+        out: &mut text,
+        at: 0,
+    };
+    put_packet(&mut over, packet, flags as usize);
+    let size = over.at;
     if out.len() < size {
-        return Writing::Refused(NO_TEXT);
+        return Err(Refusal::NoText);
     }
     copy(&text[..size], out);
-    Writing::Text(size)
+    Ok(size)
 }

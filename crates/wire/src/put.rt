@@ -1,16 +1,16 @@
 // A packet's text laid over a buffer.
 ghost use Rattle.std.specs.Prelude.{◌≡◌, true, ◌+◌, ◌*◌, ◌≤◌, ◌<◌};
 ghost use Rattle.config.specs.Limits.{max_nodes};
-ghost use Rattle.text.specs.Overlay.{Laid, Room};
+ghost use Rattle.text.specs.Overlay.{Lays, Room};
 ghost use Rattle.text.specs.Text.{number_most, spelled};
 ghost use Rattle.wire.specs.Grammar.{body_most, body_text, data_most, data_text, digit_most, flag_most, flags_most, flags_text, has_text, header_most, header_text, last_accepted_fits};
 ghost use Rattle.wire.specs.Grammar.{last_accepted_text, nack_fits, nack_number, null_most, packet_text, piggyback_fits, piggyback_most, piggyback_text, small_most, terms_fit, text_most};
 ghost use Rattle.wire.specs.View.{data_below, digits_text, digit_text, marked_flag};
 
 use network::graph::has;
-use network::units::NodeId;
-use phy::packet::{Data, LastAccepted, Nack, Packet, Piggyback};
-use text::overlay::{put, put_number, put_word};
+use network::units::{NodeId, Term};
+use phy::packet::{Packet, Piggyback};
+use text::overlay::Overlay;
 
 // No text has more bytes: `text_most` adds them up.
 pub const TEXT_SIZE: usize = 366;
@@ -19,147 +19,144 @@ pub const TEXT_SIZE: usize = 366;
 pub const DATA_SIZE: usize = 15;
 
 // A number below 100.
-fn put_small(n: u64, out: &mut [u8], at: usize) -> usize
-    requires { (n < 100) × Room at number_most }
-    ensures { Laid small_most out.old at (spelled n) out.new result }
+fn put_small(over: &mut Overlay, n: u64)
+    requires { (n < 100) × Room over.old.at number_most }
+    ensures { Lays small_most (spelled n) over.old over.new }
 {
-    put_number(n, out, at)
+    over.put_number(n);
 }
 
-fn put_last_accepted(last: LastAccepted, out: &mut [u8], at: usize) -> usize
-    requires { (last_accepted_fits last ≡ true) × Room at number_most }
-    ensures { Laid null_most out.old at (last_accepted_text last) out.new result }
+fn put_last_accepted(over: &mut Overlay, last: Option<Term>)
+    requires { (last_accepted_fits last ≡ true) × Room over.old.at number_most }
+    ensures { Lays null_most (last_accepted_text last) over.old over.new }
 {
     match last {
-        LastAccepted::None => put_word(b"null", out, at),
-        LastAccepted::At(t) => put_small(t.0, out, at),
+        None => over.put_word(b"null"),
+        Some(t) => put_small(over, t.0),
     }
 }
 
-fn put_nack(nack: Nack, out: &mut [u8], at: usize) -> usize
-    requires { (nack_fits nack ≡ true) × Room at number_most }
-    ensures { Laid small_most out.old at (spelled (nack_number nack)) out.new result }
+fn put_nack(over: &mut Overlay, nack: Option<Term>)
+    requires { (nack_fits nack ≡ true) × Room over.old.at number_most }
+    ensures { Lays small_most (spelled (nack_number nack)) over.old over.new }
 {
     match nack {
-        Nack::None => put_small(0, out, at),
-        Nack::Of(t) => put_small(t.0, out, at),
+        None => put_small(over, 0),
+        Some(t) => put_small(over, t.0),
     }
 }
 
 // Flag i, behind the bracket or a comma.
-fn put_flag(set: u64, i: usize, out: &mut [u8], at: usize) -> usize
-    requires { (i < max_nodes) × Room at flag_most }
-    ensures { Laid flag_most out.old at (marked_flag set i) out.new result }
+fn put_flag(over: &mut Overlay, set: u64, i: usize)
+    requires { (i < max_nodes) × Room over.old.at flag_most }
+    ensures { Lays flag_most (marked_flag set i) over.old over.new }
 {
     let mark = if i == 0 { b'[' } else { b',' };
-    let a = put(mark, out, at);
+    over.put(mark);
     if has(set, NodeId(i)) {
-        put_word(b"true", out, a)
+        over.put_word(b"true");
     } else {
-        put_word(b"false", out, a)
+        over.put_word(b"false");
     }
 }
 
 // The flags of the nodes below n.
-fn put_flags(set: u64, n: usize, out: &mut [u8], at: usize) -> usize
-    requires { (1 ≤ n) × (n ≤ max_nodes) × Room at flags_most }
-    ensures { Laid flags_most out.old at (flags_text n set) out.new result }
+fn put_flags(over: &mut Overlay, set: u64, n: usize)
+    requires { (1 ≤ n) × (n ≤ max_nodes) × Room over.old.at flags_most }
+    ensures { Lays flags_most (flags_text n set) over.old over.new }
 {
-    let mut next = at;
+    // By the node's number, which a set is asked for.
     for i in 0..n {
-        next = put_flag(set, i, out, next);
+        put_flag(over, set, i);
     }
-    put(b']', out, next)
+    over.put(b']');
 }
 
 // A digit as a byte of data, behind a comma.
-fn put_digit(d: u64, out: &mut [u8], at: usize) -> usize
-    requires { (d < 10) × Room at (1 + number_most) }
-    ensures { Laid digit_most out.old at (digit_text d) out.new result }
+fn put_digit(over: &mut Overlay, d: u64)
+    requires { (d < 10) × Room over.old.at (1 + number_most) }
+    ensures { Lays digit_most (digit_text d) over.old over.new }
 {
-    let next = put(b',', out, at);
-    put_small(48 + d, out, next)
+    over.put(b',');
+    put_small(over, 48 + d);
 }
 
 // The digits of a term below 100.
-fn put_digits(t: u64, out: &mut [u8], at: usize) -> usize
-    requires { (t < 100) × Room at (digit_most + 1 + number_most) }
-    ensures { Laid (small_most * digit_most) out.old at (digits_text t) out.new result }
+fn put_digits(over: &mut Overlay, t: u64)
+    requires { (t < 100) × Room over.old.at (digit_most + 1 + number_most) }
+    ensures { Lays (small_most * digit_most) (digits_text t) over.old over.new }
 {
     if t < 10 {
-        return put_digit(t, out, at);
+        put_digit(over, t);
+    } else {
+        put_digit(over, t / 10);
+        put_digit(over, t % 10);
     }
-    let next = put_digit(t / 10, out, at);
-    put_digit(t % 10, out, next)
 }
 
 // Data: nothing, or `tx` and the term in decimal.
-pub fn put_data(data: Data, out: &mut [u8], at: usize) -> usize
-    requires { (data_below «data» ≡ true) × Room at (data_most + number_most) }
-    ensures { Laid data_most out.old at (data_text «data») out.new result }
+pub fn put_data(over: &mut Overlay, data: Option<Term>)
+    requires { (data_below «data» ≡ true) × Room over.old.at (data_most + number_most) }
+    ensures { Lays data_most (data_text «data») over.old over.new }
 {
     match data {
-        Data::Empty => put_word(b"[]", out, at),
-        Data::Of(t) => {
-            let a = put_word(b"[116,120", out, at);
-            let b = put_digits(t.0, out, a);
-            put(b']', out, b)
+        None => over.put_word(b"[]"),
+        Some(t) => {
+            over.put_word(b"[116,120");
+            put_digits(over, t.0);
+            over.put(b']');
         }
     }
 }
 
-fn put_piggyback(piggyback: Piggyback, out: &mut [u8], at: usize) -> usize
-    requires { (piggyback_fits piggyback ≡ true) × Room at (piggyback_most + number_most) }
-    ensures { Laid piggyback_most out.old at (piggyback_text piggyback) out.new result }
+fn put_piggyback(over: &mut Overlay, piggyback: Option<Piggyback>)
+    requires { (piggyback_fits piggyback ≡ true) × Room over.old.at (piggyback_most + number_most) }
+    ensures { Lays piggyback_most (piggyback_text piggyback) over.old over.new }
 {
     match piggyback {
-        Piggyback::None => put_word(b"null,\"piggyback_data\":[]", out, at),
-        Piggyback::Of(t, data) => {
-            let a = put_small(t.0, out, at);
-            let b = put_word(b",\"piggyback_data\":", out, a);
-            put_data(data, out, b)
+        None => over.put_word(b"null,\"piggyback_data\":[]"),
+        Some(again) => {
+            put_small(over, again.term.0);
+            over.put_word(b",\"piggyback_data\":");
+            put_data(over, again.data);
         }
     }
 }
 
 // The fields up to the sender.
-fn put_header(packet: Packet, flags: usize, out: &mut [u8], at: usize) -> usize
-    requires { (has_text flags packet ≡ true) × Room at (header_most + number_most) }
-    ensures { Laid header_most out.old at (header_text flags packet) out.new result }
+fn put_header(over: &mut Overlay, packet: Packet, flags: usize)
+    requires { (has_text flags packet ≡ true) × Room over.old.at (header_most + number_most) }
+    ensures { Lays header_most (header_text flags packet) over.old over.new }
 {
-    let a = put_word(b"{\"current_term\":", out, at);
-    let b = put_small(packet.current_term.0, out, a);
-    let c = put_word(b",\"last_accepted_term\":", out, b);
-    let last_accepted = packet.last_accepted_term;
-    let d = put_last_accepted(last_accepted, out, c);
-    let e = put_word(b",\"flags_bitmap\":", out, d);
-    let f = put_flags(packet.flags_bitmap, flags, out, e);
-    let g = put_word(b",\"nack_term\":", out, f);
-    let nack = packet.nack_term;
-    let h = put_nack(nack, out, g);
-    let i = put_word(b",\"sender\":", out, h);
-    put_small(packet.sender.0 as u64, out, i)
+    over.put_word(b"{\"current_term\":");
+    put_small(over, packet.current_term.0);
+    over.put_word(b",\"last_accepted_term\":");
+    put_last_accepted(over, packet.last_accepted_term);
+    over.put_word(b",\"flags_bitmap\":");
+    put_flags(over, packet.flags_bitmap, flags);
+    over.put_word(b",\"nack_term\":");
+    put_nack(over, packet.nack_term);
+    over.put_word(b",\"sender\":");
+    put_small(over, packet.sender.0 as u64);
 }
 
 // The fields behind the sender, and the closing brace.
-fn put_body(packet: Packet, out: &mut [u8], at: usize) -> usize
-    requires { (terms_fit packet ≡ true) × Room at (body_most + number_most) }
-    ensures { Laid body_most out.old at (body_text packet) out.new result }
+fn put_body(over: &mut Overlay, packet: Packet)
+    requires { (terms_fit packet ≡ true) × Room over.old.at (body_most + number_most) }
+    ensures { Lays body_most (body_text packet) over.old over.new }
 {
-    let a = put_word(b",\"proposal_data\":", out, at);
-    let data = packet.proposal_data;
-    let b = put_data(data, out, a);
-    let c = put_word(b",\"piggyback_term\":", out, b);
-    let piggyback = packet.piggyback;
-    let d = put_piggyback(piggyback, out, c);
-    put(b'}', out, d)
+    over.put_word(b",\"proposal_data\":");
+    put_data(over, packet.proposal_data);
+    over.put_word(b",\"piggyback_term\":");
+    put_piggyback(over, packet.piggyback);
+    over.put(b'}');
 }
 
 // The text of a packet that has one, with so many flags.
-pub fn put_packet(packet: Packet, flags: usize, out: &mut [u8], at: usize) -> usize
-    requires { (has_text flags packet ≡ true) × Room at (text_most + number_most) }
-    ensures { Laid text_most out.old at (packet_text flags packet) out.new result }
+pub fn put_packet(over: &mut Overlay, packet: Packet, flags: usize)
+    requires { (has_text flags packet ≡ true) × Room over.old.at (text_most + number_most) }
+    ensures { Lays text_most (packet_text flags packet) over.old over.new }
 {
-    let middle = put_header(packet, flags, out, at);
-    put_body(packet, out, middle)
+    put_header(over, packet, flags);
+    put_body(over, packet);
 }

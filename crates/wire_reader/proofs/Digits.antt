@@ -2,7 +2,8 @@
 use Prim.Native.Nat.{ℕ, ◌+◌, ◌*◌, ◌/◌, ◌%◌, ◌≤◌, ◌<◌}
 use mathlib.Core.Path.{◌≡◌, refl, ap, ◌∙◌}
 use mathlib.Core.Bool.{Bool, true, false, cond, ◌&&◌, and-false}
-use mathlib.Core.Option.{none, some, none-ne-some}
+use Rattle.std.specs.Prelude.{None, Some}
+use Rattle.std.proofs.lemmas.Option.{none-some}
 use mathlib.Core.List.{List, [], ◌∷◌, ◌++◌}
 use mathlib.Core.Logic.{⊎_elim}
 use native.Mathlib.Omega.{arith}
@@ -42,33 +43,33 @@ stops (b ∷ t) = leb 10 (digit b)
 
 -- ---- the number that is spelled is read
 
-below_reads : (bound n : ℕ) (t : List ℕ) → n < bound → below bound n t ≡ some (n, t)
+below_reads : (bound n : ℕ) (t : List ℕ) → n < bound → below bound n t ≡ Some (n, t)
 unfolding below
 below_reads bound n t h = simp (lt-ltb n bound h)
 
-one_reads : (bound d : ℕ) (t : List ℕ) → d < bound → stops t ≡ true → second_digit bound d t ≡ some (d, t)
+one_reads : (bound d : ℕ) (t : List ℕ) → d < bound → stops t ≡ true → second_digit bound d t ≡ Some (d, t)
 unfolding second_digit stops
 one_reads bound d [] h e = below_reads bound d [] h
 one_reads bound d (b ∷ t) h e = simp (le-ltb (digit b) 10 (leb-true 10 (digit b) e), and-false) (below_reads bound d (b ∷ t) h)
 
-two_read : (bound d e : ℕ) (t : List ℕ) → 0 < d → e < 10 → 10 * d + e < bound → second_digit bound d ((48 + e) ∷ t) ≡ some (10 * d + e, t)
+two_read : (bound d e : ℕ) (t : List ℕ) → 0 < d → e < 10 → 10 * d + e < bound → second_digit bound d ((48 + e) ∷ t) ≡ Some (10 * d + e, t)
 unfolding second_digit
 two_read bound d e t p h b = simp (digit_of h, lt-ltb 0 d p, lt-ltb e 10 h) (below_reads bound (10 * d + e) t b)
 
-pub number_reads : (bound n : ℕ) (t : List ℕ) → bound ≤ 100 → n < bound → stops t ≡ true → number bound (spelled n ++ t) ≡ some (n, t)
+pub number_reads : (bound n : ℕ) (t : List ℕ) → bound ≤ 100 → n < bound → stops t ≡ true → number bound (spelled n ++ t) ≡ Some (n, t)
 unfolding number
 number_reads bound n t most h e = ⊎_elim (λ p. low (ltb-true n 10 p)) (λ p. high (ltb-false n 10 p)) (two (ltb n 10))
   where
-    low : n < 10 → number bound (spelled n ++ t) ≡ some (n, t)
+    low : n < 10 → number bound (spelled n ++ t) ≡ Some (n, t)
     low l = rw (spelled_low n l) (simp (digit_of l, lt-ltb n 10 l) (one_reads bound n t h e))
 
-    high : 10 ≤ n → number bound (spelled n ++ t) ≡ some (n, t)
+    high : 10 ≤ n → number bound (spelled n ++ t) ≡ Some (n, t)
     high l =
         let ten : n / 10 < 10 = omega arith in
         let parts : 10 * (n / 10) + n % 10 ≡ n = omega arith in
         rw (spelled_two n l (omega arith))
         (simp (digit_of ten, lt-ltb (n / 10) 10 ten)
-        (two_read bound (n / 10) (n % 10) t (omega arith) (omega arith) (omega arith) ∙ ap (λ k. some (k, t)) parts))
+        (two_read bound (n / 10) (n % 10) t (omega arith) (omega arith) (omega arith) ∙ ap (λ k. Some (k, t)) parts))
 
 -- ---- nothing else is read
 
@@ -77,9 +78,9 @@ below_finds : (bound m : ℕ) (Q : Claim ℕ) → ((t : List ℕ) → m < bound 
 unfolding below give
 below_finds bound m Q h t n u e = case (ltb m bound) refl e
   where
-    case : (q : Bool) → ltb m bound ≡ q → cond q (give m t) none ≡ some (n, u) → Q n t u
+    case : (q : Bool) → ltb m bound ≡ q → cond q (give m t) None ≡ Some (n, u) → Q n t u
     case true q e = give_finds m Q (λ v. h v (ltb-true m bound q)) t n u e
-    case false q e = absurd (none-ne-some (n, u) e)
+    case false q e = absurd (none-some (n, u) e)
 
 -- behind the first digit
 one_finds : (bound d : ℕ) → d < 10 → Finds (below bound d) (λ n t u. (n < bound) × ((48 + d) ∷ t ≡ spelled n ++ u))
@@ -100,7 +101,7 @@ unfolding second_digit
 second_finds bound d h [] n u e = one_finds bound d h [] n u e
 second_finds bound d h (b ∷ t) n u e = case (ltb 0 d && ltb (digit b) 10) refl e
   where
-    case : (q : Bool) → ltb 0 d && ltb (digit b) 10 ≡ q → cond q (below bound (10 * d + digit b) t) (below bound d (b ∷ t)) ≡ some (n, u)
+    case : (q : Bool) → ltb 0 d && ltb (digit b) 10 ≡ q → cond q (below bound (10 * d + digit b) t) (below bound d (b ∷ t)) ≡ Some (n, u)
         → (n < bound) × ((48 + d) ∷ b ∷ t ≡ spelled n ++ u)
     case true q e =
         let digits = and_both (ltb 0 d) (ltb (digit b) 10) q in
@@ -109,12 +110,12 @@ second_finds bound d h (b ∷ t) n u e = case (ltb 0 d && ltb (digit b) 10) refl
 
 pub number_only : (bound : ℕ) → Only (number bound) (λ n. n < bound) spelled
 unfolding number
-number_only bound [] n u e = absurd (none-ne-some (n, u) e)
+number_only bound [] n u e = absurd (none-some (n, u) e)
 number_only bound (a ∷ t) n u e = case (ltb (digit a) 10) refl e
   where
-    case : (q : Bool) → ltb (digit a) 10 ≡ q → cond q (second_digit bound (digit a) t) none ≡ some (n, u) → (n < bound) × (a ∷ t ≡ spelled n ++ u)
+    case : (q : Bool) → ltb (digit a) 10 ≡ q → cond q (second_digit bound (digit a) t) None ≡ Some (n, u) → (n < bound) × (a ∷ t ≡ spelled n ++ u)
     case true q e =
         let h = ltb-true (digit a) 10 q in
         let found = second_finds bound (digit a) h t n u e in
         (found.0, ap (λ b. b ∷ t) (figure a h) ∙ found.1)
-    case false q e = absurd (none-ne-some (n, u) e)
+    case false q e = absurd (none-some (n, u) e)

@@ -2,7 +2,8 @@
 use Prim.Native.Nat.{ℕ, zero, suc, ◌^◌, ◌≤◌, ◌<◌}
 use mathlib.Core.Path.{◌≡◌, refl, sym, ap, ◌∙◌}
 use mathlib.Core.Bool.{Bool, true, false, cond}
-use mathlib.Core.Option.{none, some, none-ne-some}
+use Rattle.std.specs.Prelude.{None, Some}
+use Rattle.std.proofs.lemmas.Option.{none-some}
 use mathlib.Core.List.{List, [], ◌∷◌, ◌++◌, map, append_assoc}
 use native.Mathlib.Omega.{arith}
 use lib.Dec.{leb}
@@ -20,7 +21,7 @@ use Rattle.wire_reader.proofs.Words.{word_reads, bind_reads, Claim, Finds, Only,
 
 -- ---- one flag
 
-flag_reads : (f : Bool) (t : List ℕ) → flag (flag_text f ++ t) ≡ some (f, t)
+flag_reads : (f : Bool) (t : List ℕ) → flag (flag_text f ++ t) ≡ Some (f, t)
 unfolding flag ◌or_else◌ behind_word behind give ascii
 flag_reads true t = refl
 flag_reads false t = refl
@@ -40,16 +41,16 @@ items_text (f ∷ fs) = flag_text f ++ behind_commas (map flag_text fs) ++ ascii
 abbrev after : ℕ → Bool → Reader (List Bool)
 after most f = ("]" >> give (f ∷ [])) or_else ("," >> (flags_in most >>= λ fs. give (f ∷ fs)))
 
-after_last_lem : (most : ℕ) (f : Bool) (t : List ℕ) → after most f (ascii "]" ++ t) ≡ some (f ∷ [], t)
+after_last_lem : (most : ℕ) (f : Bool) (t : List ℕ) → after most f (ascii "]" ++ t) ≡ Some (f ∷ [], t)
 unfolding ◌or_else◌ behind_word behind give ascii
 after_last_lem most f t = refl
 
 after_more : (most : ℕ) (f : Bool) (t : List ℕ) {fs : List Bool} {u : List ℕ}
-    → flags_in most t ≡ some (fs, u) → after most f (ascii "," ++ t) ≡ some (f ∷ fs, u)
+    → flags_in most t ≡ Some (fs, u) → after most f (ascii "," ++ t) ≡ Some (f ∷ fs, u)
 unfolding ◌or_else◌ behind_word behind give ascii
 after_more most f t e = bind_reads _ _ t e
 
-items_read : (most : ℕ) (fs : List Bool) (t : List ℕ) → 1 ≤ length fs → length fs ≤ most → flags_in most (items_text fs ++ t) ≡ some (fs, t)
+items_read : (most : ℕ) (fs : List Bool) (t : List ℕ) → 1 ≤ length fs → length fs ≤ most → flags_in most (items_text fs ++ t) ≡ Some (fs, t)
 unfolding flags_in behind_commas
 items_read zero fs t h h' = absurd (omega arith)
 items_read (suc most) [] t h h' = absurd (omega arith)
@@ -60,7 +61,7 @@ items_read (suc most) (f ∷ g ∷ fs) t h h' =
 
 items_only : (most : ℕ) → Only (flags_in most) (λ fs. (1 ≤ length fs) × (length fs ≤ most)) items_text
 unfolding flags_in behind_commas
-items_only zero = λ t fs u e. absurd (none-ne-some (fs, u) e)
+items_only zero = λ t fs u e. absurd (none-some (fs, u) e)
 items_only (suc most) = bind_finds flag (after most) _ flag_text flag_only (λ f _. behind_flag f (items_only most))
   where
     more : (f : Bool) (fs : List Bool) → (1 ≤ length fs) × (length fs ≤ most) → (t : List ℕ)
@@ -88,13 +89,13 @@ unfolding flags_text array tabulate
 flags_text_items zero s h = absurd (omega arith)
 flags_text_items (suc n) s h = rw (map_tabulate n (λ i. has s (suc i))) (simp append_assoc)
 
-counted_reads : (n s : ℕ) (t : List ℕ) → min_nodes ≤ n → s < 2 ^ n → counted (tabulate n (has s)) t ≡ some ((s, n), t)
+counted_reads : (n s : ℕ) (t : List ℕ) → min_nodes ≤ n → s < 2 ^ n → counted (tabulate n (has s)) t ≡ Some ((s, n), t)
 unfolding counted
 counted_reads n s t least h =
     let set : set_of n (λ i. get_or (tabulate n (has s)) i false) ≡ s = set_of_cong n (λ i b. get_d_tabulate n (has s) i false b) ∙ set_of_has n s h in
     rw (length_tabulate n (has s), le-leb min_nodes n least, set)
 
-pub flags_read : (n s : ℕ) (t : List ℕ) → min_nodes ≤ n → n ≤ max_nodes → s < 2 ^ n → flags (flags_text n s ++ t) ≡ some ((s, n), t)
+pub flags_read : (n s : ℕ) (t : List ℕ) → min_nodes ≤ n → n ≤ max_nodes → s < 2 ^ n → flags (flags_text n s ++ t) ≡ Some ((s, n), t)
 unfolding flags
 flags_read n s t least most h =
     let size = length_tabulate n (has s) in
@@ -109,9 +110,9 @@ counted_finds : (fs : List Bool) (Q : Claim (ℕ × ℕ)) → ((t : List ℕ) �
 unfolding counted give
 counted_finds fs Q h t x u e = case (leb min_nodes (length fs)) refl e
   where
-    case : (q : Bool) → leb min_nodes (length fs) ≡ q → cond q (give (set_in fs, length fs) t) none ≡ some (x, u) → Q x t u
+    case : (q : Bool) → leb min_nodes (length fs) ≡ q → cond q (give (set_in fs, length fs) t) None ≡ Some (x, u) → Q x t u
     case true q e = give_finds (set_in fs, length fs) Q (λ v. h v (leb-true min_nodes (length fs) q)) t x u e
-    case false q e = absurd (none-ne-some (x, u) e)
+    case false q e = absurd (none-some (x, u) e)
 
 -- the flags of the set are the flags
 flags_set_in : (fs : List Bool) → tabulate (length fs) (has (set_in fs)) ≡ fs

@@ -3,33 +3,28 @@
 use Prim.Native.Nat.{ℕ, ◌^◌, ◌≤◌, ◌<◌}
 use mathlib.Core.Path.{◌≡◌, refl, sym, ap, ◌∙◌}
 use mathlib.Core.Bool.{Bool, true, false, cond, ◌&&◌}
-use mathlib.Core.Option.{Option, none, some}
+use Rattle.std.specs.Prelude.{Option, None, Some, Result, Ok, Err}
 use mathlib.Core.List.{List, [], ◌∷◌, ◌++◌, append_assoc, append-nil}
 use native.Mathlib.Omega.{arith}
 use lib.Dec.{leb}
 use lib.ListN.{length, take}
 use lib.Seq.{sets}
 use borrow.Author.Tests.{le-leb, leb-true}
+use Rattle.config.specs.declared.refusal.Refusal.{Refusal}
 use Rattle.config.specs.Limits.{min_nodes, max_nodes, max_terms}
 use Rattle.network.specs.Graph.{set_of}
 use Rattle.network.proofs.Sets.{and_both}
-use Rattle.phy.specs.declared.packet.LastAccepted.{LastAccepted}
-use Rattle.phy.specs.declared.packet.Nack.{Nack}
-use Rattle.phy.specs.declared.packet.Data.{Data}
-use Rattle.phy.specs.declared.packet.Piggyback.{Piggyback}
 use Rattle.phy.specs.declared.packet.Packet.{Packet}
 use Rattle.text.proofs.Overlays.{front_is}
 use Rattle.text.specs.Text.{ascii, spelled, spelled_in}
 use Rattle.text.specs.Numeral.{digit}
 use Rattle.wire.specs.Grammar.{last_accepted_fits, nack_fits, data_fits, piggyback_fits, has_text, data_bytes, behind_commas, array, flags_text, last_accepted_text, nack_number, data_text, piggyback_text, header_text, body_text, packet_text}
 use Rattle.wire_reader.specs.Reader.{behind, give, ◌>>=◌, behind_word, ◌or_else◌, below, second_digit, number, last_accepted, flag, flags_in, counted, flags, data_of, piggyback, header, body, packet_of, packet}
-use Rattle.wire.specs.Writing.{no_text, writing}
+use Rattle.wire.specs.Writing.{writing}
 use Rattle.wire_reader.specs.Reading.{nothing_behind, reading, ExactlyTheTexts, WhatIsWrittenIsRead, WhatIsReadIsWritten, TextsTellApart}
 use Rattle.wire_reader.specs.declared.fields.Header.{Header}
 use Rattle.wire_reader.specs.declared.fields.Body.{Body}
-use Rattle.wire.specs.declared.Writing.{Writing}
 use Rattle.wire.proofs.Fitting.{fitting, has_text_lem}
-use Rattle.wire_reader.specs.declared.Reading.{Reading}
 use Rattle.wire_reader.proofs.Words.{word_reads, bind_reads, field_reads, Only, give_finds, word_finds, bind_finds, field_finds}
 use Rattle.wire_reader.proofs.Digits.{stops, number_reads, number_only}
 use Rattle.wire_reader.proofs.Flags.{flags_read, flags_only}
@@ -75,7 +70,7 @@ both_fit h b f g =
 
 -- its text, which does not depend on the body
 abbrev text_of : Header → List ℕ
-text_of h = header_text h.flags (packet_of h (record { proposal_data = Data.Empty; piggyback = Piggyback.None }))
+text_of h = header_text h.flags (packet_of h (record { proposal_data = None; piggyback = None }))
 
 -- the same, read from the front
 regroup : (current last flags asked sender t : List ℕ)
@@ -85,7 +80,7 @@ regroup : (current last flags asked sender t : List ℕ)
     ++ (ascii ",\"nack_term\":" ++ (asked ++ (ascii ",\"sender\":" ++ (sender ++ t)))))))))
 regroup current last flags asked sender t = simp append_assoc
 
-header_reads : (h : Header) (t : List ℕ) → HeaderFits h → stops t ≡ true → header (text_of h ++ t) ≡ some (h, t)
+header_reads : (h : Header) (t : List ℕ) → HeaderFits h → stops t ≡ true → header (text_of h ++ t) ≡ Some (h, t)
 unfolding header header_text give stops ascii digit
 header_reads h t f e =
     ap header
@@ -113,7 +108,7 @@ header_only =
 
 -- ---- the body
 
-body_reads : (h : Header) (b : Body) (t : List ℕ) → BodyFits h b → body h.current_term (body_text (packet_of h b) ++ t) ≡ some (b, t)
+body_reads : (h : Header) (b : Body) (t : List ℕ) → BodyFits h b → body h.current_term (body_text (packet_of h b) ++ t) ≡ Some (b, t)
 unfolding body body_text give
 body_reads h b t f =
     simp append_assoc
@@ -135,7 +130,7 @@ body_stops p t = refl
 -- ---- the packet
 
 parts_read : (h : Header) (b : Body) (t : List ℕ)
-    → HeaderFits h → BodyFits h b → packet (packet_text h.flags (packet_of h b) ++ t) ≡ some ((packet_of h b, h.flags), t)
+    → HeaderFits h → BodyFits h b → packet (packet_text h.flags (packet_of h b) ++ t) ≡ Some ((packet_of h b, h.flags), t)
 unfolding packet packet_text header_text give
 parts_read h b t f g =
     let p = packet_of h b in
@@ -143,7 +138,7 @@ parts_read h b t f g =
     ∙ bind_reads _ _ _ (header_reads h (body_text p ++ t) f (body_stops p t))
     ∙ bind_reads _ _ _ (body_reads h b t g)
 
-packet_reads : (p : Packet) (n : ℕ) (t : List ℕ) → has_text n p ≡ true → packet (packet_text n p ++ t) ≡ some ((p, n), t)
+packet_reads : (p : Packet) (n : ℕ) (t : List ℕ) → has_text n p ≡ true → packet (packet_text n p ++ t) ≡ Some ((p, n), t)
 packet_reads p n t e = let (f, g) = fits_both h b e in parts_read h b t f g
   where
     h : Header
@@ -169,21 +164,21 @@ packet_only =
 -- ---- the laws
 
 -- a packet's text is read as the packet
-text_reads : (p : Packet) (n : ℕ) → has_text n p ≡ true → reading (packet_text n p) ≡ Reading.Packet p n
+text_reads : (p : Packet) (n : ℕ) → has_text n p ≡ true → reading (packet_text n p) ≡ Ok (p, n)
 unfolding reading
 text_reads p n e = ap nothing_behind (ap packet (sym (append-nil (packet_text n p))) ∙ packet_reads p n [] e)
 
 -- and nothing else is read
-reading_only : (t : List ℕ) (p : Packet) (n : ℕ) → reading t ≡ Reading.Packet p n → (has_text n p ≡ true) × (t ≡ packet_text n p)
+reading_only : (t : List ℕ) (p : Packet) (n : ℕ) → reading t ≡ Ok (p, n) → (has_text n p ≡ true) × (t ≡ packet_text n p)
 unfolding reading
 reading_only t p n e =
     let found = packet_only t (p, n) [] (case (packet t) e) in
     (found.0, found.1 ∙ append-nil (packet_text n p))
   where
-    case : (o : Option ((Packet × ℕ) × List ℕ)) → nothing_behind o ≡ Reading.Packet p n → o ≡ some ((p, n), [])
-    case none e = cc
-    case (some ((q, m), [])) e = cc
-    case (some ((q, m), b ∷ u)) e = cc
+    case : (o : Option ((Packet × ℕ) × List ℕ)) → nothing_behind o ≡ Ok (p, n) → o ≡ Some ((p, n), [])
+    case None e = cc
+    case (Some ((q, m), [])) e = cc
+    case (Some ((q, m), b ∷ u)) e = cc
 
 pub exactly_the_texts : ExactlyTheTexts
 exactly_the_texts t p n = (reading_only t p n, λ both. ap reading both.1 ∙ text_reads p n both.0)
@@ -195,11 +190,11 @@ what_is_written_is_read p n out size e = case (has_text n p && leb (length text)
     text : List ℕ
     text = packet_text n p
 
-    answer : Bool → Writing × List ℕ
-    answer q = cond q (Writing.Text (length text), sets out 0 text) (Writing.Refused no_text, out)
+    answer : Bool → Result ℕ Refusal × List ℕ
+    answer q = cond q (Ok (length text), sets out 0 text) (Err Refusal.NoText, out)
 
-    case : (q : Bool) → has_text n p && leb (length text) (length out) ≡ q → (answer q).0 ≡ Writing.Text size
-        → reading (take size (answer q).1) ≡ Reading.Packet p n
+    case : (q : Bool) → has_text n p && leb (length text) (length out) ≡ q → (answer q).0 ≡ Ok size
+        → reading (take size (answer q).1) ≡ Ok (p, n)
     case true q e =
         let (fits, room) = and_both (has_text n p) (leb (length text) (length out)) q in
         let whole-text : length text ≡ size = cc in
@@ -216,23 +211,25 @@ pub texts_tell_apart : TextsTellApart
 texts_tell_apart p q n m e e' same =
     let read = text_reads p n e in
     let read' = text_reads q m e' in
-    (cc, cc)
+    let both : ◌≡◌ {A = Packet × ℕ} (p, n) (q, m) = cc in
+    (ap (λ z. z.0) both, ap (λ z. z.1) both)
 
 -- ---- an example, by computation
 
 pub the_example : reading
     (ascii "{\"current_term\":0,\"last_accepted_term\":null,\"flags_bitmap\":[true,false],\"nack_term\":0,\"sender\":0,\"proposal_data\":[116,120,48],\"piggyback_term\":null,\"piggyback_data\":[]}")
-    ≡ Reading.Packet
-    (record {
-      current_term = record { 0 = 0 };
-      last_accepted_term = LastAccepted.None;
-      flags_bitmap = 1;
-      nack_term = Nack.None;
-      sender = record { 0 = 0 };
-      proposal_data = Data.Of (record { 0 = 0 });
-      piggyback = Piggyback.None;
-    })
-    2
+    ≡ Ok (
+      record {
+        current_term = record { 0 = 0 };
+        last_accepted_term = None;
+        flags_bitmap = 1;
+        nack_term = None;
+        sender = record { 0 = 0 };
+        proposal_data = Some (record { 0 = 0 });
+        piggyback = None;
+      },
+      2,
+    )
 unfolding reading packet header body piggyback data_of flags counted flags_in flag last_accepted number second_digit below ◌or_else◌ behind_word ◌>>=◌
     give behind set_of data_text data_bytes array behind_commas ascii spelled spelled_in digit
 the_example = refl

@@ -1,46 +1,42 @@
 -- What the code finds at a place of a text, and what the readers find there. Assumes nothing.
-use Prim.Native.Nat.{ℕ, zero, suc, ◌+◌, ◌*◌, ◌≤◌, ◌<◌}
+use Prim.Native.Nat.{ℕ, zero, suc, ◌+◌, ◌-◌, ◌*◌, ◌≤◌, ◌<◌}
 use mathlib.Core.Path.{◌≡◌, refl, ap, ◌∙◌}
 use mathlib.Core.Bool.{Bool, true, false, cond, and-false}
-use mathlib.Core.Option.{Option, none, some}
+use Rattle.std.specs.Prelude.{Option, None, Some}
 use mathlib.Core.List.{List, [], ◌∷◌, ◌++◌}
 use mathlib.Core.Logic.{◌⊎◌, inl, inr, ⊎_elim}
 use native.Mathlib.Omega.{arith}
 use lib.Dec.{ltb, eqb}
-use lib.ListN.{length, get_or, drop, drop_of_length-le}
-use borrow.Author.Tests.{eq-eqb, ne_eqb, lt-ltb, le-ltb, ltb-true, ltb-false}
+use lib.ListN.{length, get_or, take, drop, drop_of_length-le}
+use Rattle.std.specs.List.{starts_with}
+use Rattle.std.proofs.lemmas.List.{drop-drop, take_rest}
+use Rattle.std.proofs.lemmas.Slice.Eq.{starts_is}
+use Rattle.std.proofs.lemmas.Bool.Decides.{Decides-eqb}
+use borrow.Author.Tests.{lt-ltb, le-ltb, ltb-true, ltb-false}
 use Rattle.text.specs.Numeral.{digit}
 use Rattle.text.proofs.Front.{front}
 use Rattle.wire_reader.specs.Reader.{Reader, behind, behind_word, beyond, onward, ◌>>=◌, number, second_digit, below}
-use Rattle.wire_reader.specs.View.{rest, place, WordAt, resting, reached, ValueAt}
-use Rattle.wire_reader.proofs.Words.{bind_none, bind_reads, word_none}
+use Rattle.wire_reader.specs.View.{WordAt, ValueAt}
+use Rattle.wire_reader.proofs.Words.{behind_only, behind_word_lem, bind_none, bind_reads, word_none}
 
 -- ---- words
 
--- a text that is shorter than the word
-pub behind_short : (word t : List ℕ) → length t < length word → behind word t ≡ none
-unfolding behind
-behind_short [] t h = absurd (omega arith)
-behind_short (b ∷ word) [] h = refl
-behind_short (b ∷ word) (c ∷ t) h = case (behind_short word t (omega arith)) (eqb c b)
-  where
-    case : behind word t ≡ none → (q : Bool) → cond q (behind word t) none ≡ none
-    case e true = e
-    case e false = refl
+-- the word at the place `at`, as `starts_with` finds it there
+module _ (word text : List ℕ) (at : ℕ) (r : Bool) (e : r ≡ starts_with eqb (take (length text - at) (drop at text)) word) where
+  told : (r ≡ true → drop at text ≡ word ++ drop (length word) (drop at text)) × ((u : List ℕ) → drop at text ≡ word ++ u → r ≡ true)
+  told = starts_is Decides-eqb (drop at text) word r (e ∙ ap (λ (s : List ℕ). starts_with eqb s word) (take_rest text at))
 
--- byte i of the word, at place j of the text
-module _ (word t : List ℕ) (i j : ℕ) (in_word : i < length word) (in-text : j < length t) where
-  pub behind_step : get_or t j 0 ≡ get_or word i 0 → behind (drop i word) (drop j t) ≡ behind (drop (i + 1) word) (drop (j + 1) t)
-  unfolding behind
-  behind_step e = rw (front word i in_word, front t j in-text) (simp (eq-eqb (get_or t j 0) (get_or word i 0) e))
+  pub word_here : r ≡ true → at + length word ≤ length text → WordAt word text at (Some (at + length word))
+  word_here h inside =
+      let found : behind word (drop at text) ≡ Some (drop (length word) (drop at text)) = ap (behind word) (told.0 h) ∙ behind_word_lem word _ in
+      record { right = found ∙ ap (λ (s : List ℕ). Some s) (drop-drop (length word) at text); inside = inside }
 
-  pub behind_differs : (get_or t j 0 ≡ get_or word i 0 → ⊥) → behind (drop i word) (drop j t) ≡ none
-  unfolding behind
-  behind_differs h = rw (front word i in_word, front t j in-text) (simp (ne_eqb (get_or t j 0) (get_or word i 0) h))
-
-pub behind_all : (word t : List ℕ) (i : ℕ) → length word ≤ i → behind (drop i word) t ≡ some t
-unfolding behind
-behind_all word t i h = rw (drop_of_length-le word h) refl
+  pub word_absent : r ≡ false → WordAt word text at None
+  word_absent h = case (behind word (drop at text)) refl
+    where
+      case : (o : Option (List ℕ)) → behind word (drop at text) ≡ o → WordAt word text at None
+      case None o = record { right = o; inside = omega arith }
+      case (Some u) o = let starts : r ≡ true = told.1 u (behind_only word (drop at text) u o) in cc
 
 -- ---- numbers
 
@@ -66,7 +62,7 @@ pub digit_inside : (t : List ℕ) (at : ℕ) → digit (get_or t at 0) < 10 → 
 digit_inside t at h = ⊎_elim (λ inside. inside) (λ out. absurd (omega (arith, digit_past t at out))) (sides t at)
 
 module _ (bound : ℕ) (t : List ℕ) (at : ℕ) where
-  pub number_none : 10 ≤ digit (get_or t at 0) → number bound (drop at t) ≡ none
+  pub number_none : 10 ≤ digit (get_or t at 0) → number bound (drop at t) ≡ None
   unfolding number
   number_none h =
       ⊎_elim
@@ -99,33 +95,26 @@ second_zero bound (b ∷ t) = refl
 -- ---- values
 
 module _ {A : Type 0} {reader : Reader A} {text : List ℕ} {at : ℕ} where
-  pub value_none : reader (drop at text) ≡ none → ValueAt reader text at none
+  pub value_none : reader (drop at text) ≡ None → ValueAt reader text at None
   value_none e = record { right = e; inside = omega arith }
 
-  pub value_some : {a : A} {next : ℕ} → reader (drop at text) ≡ some (a, drop next text) → next ≤ length text → ValueAt reader text at (some (a, next))
+  pub value_some : {a : A} {next : ℕ} → reader (drop at text) ≡ Some (a, drop next text) → next ≤ length text → ValueAt reader text at (Some (a, next))
   value_some e h = record { right = e; inside = h }
 
-  -- the answer turned out to be this
-  pub right_as : {found : Option (A × ℕ)} (known : Option (A × ℕ)) → ValueAt reader text at found → found ≡ known → reader (drop at text) ≡ resting text known
-  right_as known v e = v.right ∙ ap (resting text) e
-
-  pub inside_as : {found : Option (A × ℕ)} (known : Option (A × ℕ)) → ValueAt reader text at found → found ≡ known → reached known ≤ length text
-  inside_as known v e = omega (arith, v.inside, ap reached e)
-
 -- a word in front of the value
-module _ {A : Type 0} {word text : List ℕ} {at : ℕ} {found : Option ℕ} (next : Reader A) (w : WordAt word text at found) where
-  pub word_missing : found ≡ none → behind_word word next (drop at text) ≡ none
-  word_missing e = word_none word next (drop at text) (w.right ∙ ap (rest text) e)
+module _ {A : Type 0} {word text : List ℕ} {at : ℕ} (next : Reader A) where
+  pub word_missing : WordAt word text at None → behind_word word next (drop at text) ≡ None
+  word_missing w = word_none word next (drop at text) w.right
 
-  pub word_passed : (end : ℕ) → found ≡ some end → behind_word word next (drop at text) ≡ next (drop end text)
+  pub word_passed : {end : ℕ} → WordAt word text at (Some end) → behind_word word next (drop at text) ≡ next (drop end text)
   unfolding behind_word
-  word_passed end e = simp (w.right ∙ ap (rest text) e)
+  word_passed w = simp w.right
 
-  pub unlabelled : found ≡ none → ValueAt (behind_word word next) text at none
-  unlabelled e = value_none (word_missing e)
+  pub unlabelled : WordAt word text at None → ValueAt (behind_word word next) text at None
+  unlabelled w = value_none (word_missing w)
 
-  pub labelled : (end : ℕ) → found ≡ some end → {value : Option (A × ℕ)} → ValueAt next text end value → ValueAt (behind_word word next) text at value
-  labelled end e v = record { right = word_passed end e ∙ v.right; inside = v.inside }
+  pub labelled : {end : ℕ} → WordAt word text at (Some end) → {value : Option (A × ℕ)} → ValueAt next text end value → ValueAt (behind_word word next) text at value
+  labelled w v = record { right = word_passed w ∙ v.right; inside = v.inside }
 
 -- a field of several: its word and its value, and what reads on behind it
 module _ {A B : Type 0} (word : List ℕ) (reader : Reader A) (next : A → Reader B) where
@@ -135,16 +124,15 @@ module _ {A B : Type 0} (word : List ℕ) (reader : Reader A) (next : A → Read
   regroup t = case (behind word t)
     where
       case : (o : Option (List ℕ)) → beyond (reader >>= next) o ≡ onward next (beyond reader o)
-      case none = refl
-      case (some u) = refl
+      case None = refl
+      case (Some u) = refl
 
-  pub field_missing : {text : List ℕ} {at : ℕ} {found : Option (A × ℕ)} → ValueAt (behind_word word reader) text at found → found ≡ none
-      → behind_word word (reader >>= next) (drop at text) ≡ none
-  field_missing {text} {at} v e = regroup (drop at text) ∙ bind_none _ _ _ (right_as none v e)
+  module _ {text : List ℕ} {at : ℕ} where
+    pub field_missing : ValueAt (behind_word word reader) text at None → behind_word word (reader >>= next) (drop at text) ≡ None
+    field_missing v = regroup (drop at text) ∙ bind_none _ _ _ v.right
 
-  pub field_found : {text : List ℕ} {at : ℕ} {found : Option (A × ℕ)} {a : A} {end : ℕ} → ValueAt (behind_word word reader) text at found
-      → found ≡ some (a, end) → behind_word word (reader >>= next) (drop at text) ≡ next a (drop end text)
-  field_found {text} {at} {a = a} {end = end} v e = regroup (drop at text) ∙ bind_reads _ _ _ (right_as (some (a, end)) v e)
+    pub field_found : {a : A} {end : ℕ} → ValueAt (behind_word word reader) text at (Some (a, end)) → behind_word word (reader >>= next) (drop at text) ≡ next a (drop end text)
+    field_found v = regroup (drop at text) ∙ bind_reads _ _ _ v.right
 
 -- two words behind each other are one
 pub two_words : {A : Type 0} (u v : List ℕ) (next : Reader A) (t : List ℕ) → behind_word u (behind_word v next) t ≡ behind_word (u ++ v) next t
@@ -154,21 +142,17 @@ two_words (b ∷ u) v next [] = refl
 two_words (b ∷ u) v next (c ∷ t) = case (two_words u v next t) (eqb c b)
   where
     case : behind_word u (behind_word v next) t ≡ behind_word (u ++ v) next t → (q : Bool)
-        → beyond (behind_word v next) (cond q (behind u t) none) ≡ beyond next (cond q (behind (u ++ v) t) none)
+        → beyond (behind_word v next) (cond q (behind u t) None) ≡ beyond next (cond q (behind (u ++ v) t) None)
     case ih true = ih
     case ih false = refl
 
--- the place behind a word is in the text
-pub word_inside : {word text : List ℕ} {at : ℕ} {found : Option ℕ} (next : ℕ) → WordAt word text at found → found ≡ some next → next ≤ length text
-word_inside next w e = omega (arith, w.inside, ap place e)
-
 -- a number at the place before `next`, which has to be below the bound
 pub value_below :
-    {reader : Reader ℕ} {text : List ℕ} {at : ℕ} (bound n next : ℕ) {found : Option (ℕ × ℕ)} → found ≡ cond (ltb n bound) (some (n, next)) none →
+    {reader : Reader ℕ} {text : List ℕ} {at : ℕ} (bound n next : ℕ) {found : Option (ℕ × ℕ)} → found ≡ cond (ltb n bound) (Some (n, next)) None →
     reader (drop at text) ≡ below bound n (drop next text) → next ≤ length text → ValueAt reader text at found
 unfolding below
 value_below {reader} {text} {at} bound n next {found} e r h = case (ltb n bound) e r
   where
-    case : (b : Bool) → found ≡ cond b (some (n, next)) none → reader (drop at text) ≡ cond b (some (n, drop next text)) none → ValueAt reader text at found
+    case : (b : Bool) → found ≡ cond b (Some (n, next)) None → reader (drop at text) ≡ cond b (Some (n, drop next text)) None → ValueAt reader text at found
     case true e r = rw e (value_some r h)
     case false e r = rw e (value_none r)

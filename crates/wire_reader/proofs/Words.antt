@@ -3,7 +3,8 @@
 use Prim.Native.Nat.{ℕ}
 use mathlib.Core.Path.{◌≡◌, refl, sym, ◌∙◌, subst}
 use mathlib.Core.Bool.{Bool, true, false, cond}
-use mathlib.Core.Option.{Option, none, some, none-ne-some, some-injective}
+use Rattle.std.specs.Prelude.{Option, None, Some}
+use Rattle.std.proofs.lemmas.Option.{none-some}
 use mathlib.Core.List.{List, [], ◌∷◌, ◌++◌}
 use lib.Dec.{eqb}
 use borrow.Author.Tests.{eq-eqb, ne_eqb, eqb-true}
@@ -11,23 +12,23 @@ use Rattle.wire_reader.specs.Reader.{Reader, behind, give, onward, ◌>>=◌, be
 
 -- ---- a word at the front
 
-pub behind_word_lem : (word t : List ℕ) → behind word (word ++ t) ≡ some t
+pub behind_word_lem : (word t : List ℕ) → behind word (word ++ t) ≡ Some t
 unfolding behind
 behind_word_lem [] t = refl
 behind_word_lem (b ∷ word) t = simp (eq-eqb b b refl) (behind_word_lem word t)
 
-pub behind_only : (word t u : List ℕ) → behind word t ≡ some u → t ≡ word ++ u
+pub behind_only : (word t u : List ℕ) → behind word t ≡ Some u → t ≡ word ++ u
 unfolding behind
 behind_only [] t u e = cc
 behind_only (b ∷ word) [] u e = cc
 behind_only (b ∷ word) (c ∷ t) u e = case (behind_only word t u) (eqb c b) refl e
   where
-    case : (behind word t ≡ some u → t ≡ word ++ u) → (q : Bool) → eqb c b ≡ q → cond q (behind word t) none ≡ some u → c ∷ t ≡ b ∷ word ++ u
+    case : (behind word t ≡ Some u → t ≡ word ++ u) → (q : Bool) → eqb c b ≡ q → cond q (behind word t) None ≡ Some u → c ∷ t ≡ b ∷ word ++ u
     case ih true q e = let same = eqb-true c b q in let rest = ih e in cc
     case ih false q e = cc
 
 -- the first byte is another
-pub behind_other : {b c : ℕ} (word t : List ℕ) → (c ≡ b → ⊥) → behind (b ∷ word) (c ∷ t) ≡ none
+pub behind_other : {b c : ℕ} (word t : List ℕ) → (c ≡ b → ⊥) → behind (b ∷ word) (c ∷ t) ≡ None
 unfolding behind
 behind_other {b} {c} word t h = simp (ne_eqb c b h)
 
@@ -38,30 +39,30 @@ module _ {A : Type 0} (word : List ℕ) (next : Reader A) (t : List ℕ) where
   unfolding behind_word
   word_reads = simp behind_word_lem
 
-  pub word_none : behind word t ≡ none → behind_word word next t ≡ none
+  pub word_none : behind word t ≡ None → behind_word word next t ≡ None
   unfolding behind_word
   word_none e = simp e
 
 module _ {A B : Type 0} (first : Reader A) (next : A → Reader B) (t : List ℕ) where
-  pub bind_reads : {a : A} {u : List ℕ} → first t ≡ some (a, u) → (first >>= next) t ≡ next a u
+  pub bind_reads : {a : A} {u : List ℕ} → first t ≡ Some (a, u) → (first >>= next) t ≡ next a u
   unfolding ◌>>=◌
   bind_reads e = simp e
 
-  pub bind_none : first t ≡ none → (first >>= next) t ≡ none
+  pub bind_none : first t ≡ None → (first >>= next) t ≡ None
   unfolding ◌>>=◌
   bind_none e = simp e
 
 -- a word, and a value behind it
 pub field_reads : {A B : Type 0} (word : List ℕ) (first : Reader A) (next : A → Reader B) (t : List ℕ) {a : A} {u : List ℕ}
-    → first t ≡ some (a, u) → behind_word word (first >>= next) (word ++ t) ≡ next a u
+    → first t ≡ Some (a, u) → behind_word word (first >>= next) (word ++ t) ≡ next a u
 field_reads word first next t e = word_reads word (first >>= next) t ∙ bind_reads first next t e
 
 module _ {A : Type 0} (first second : Reader A) (t : List ℕ) where
-  pub or_first : {z : A × List ℕ} → first t ≡ some z → (first or_else second) t ≡ some z
+  pub or_first : {z : A × List ℕ} → first t ≡ Some z → (first or_else second) t ≡ Some z
   unfolding ◌or_else◌
   or_first e = simp e
 
-  pub or_second : first t ≡ none → (first or_else second) t ≡ second t
+  pub or_second : first t ≡ None → (first or_else second) t ≡ second t
   unfolding ◌or_else◌
   or_second e = simp e
 
@@ -73,7 +74,7 @@ Claim A = A → List ℕ → List ℕ → Type 0
 
 -- it holds of all that the reader finds
 abbrev pub Finds : {A : Type 0} → Reader A → Claim A → Type 0
-Finds {A} r Q = (t : List ℕ) (a : A) (u : List ℕ) → r t ≡ some (a, u) → Q a t u
+Finds {A} r Q = (t : List ℕ) (a : A) (u : List ℕ) → r t ≡ Some (a, u) → Q a t u
 
 -- the reader finds only values that fit, and each only where its text is at the front
 abbrev pub Only : {A : Type 0} → Reader A → (A → Type 0) → (A → List ℕ) → Type 0
@@ -81,16 +82,16 @@ Only r fits text = Finds r (λ a t u. fits a × (t ≡ text a ++ u))
 
 pub give_finds : {A : Type 0} (a : A) (Q : Claim A) → ((t : List ℕ) → Q a t t) → Finds (give a) Q
 unfolding give
-give_finds a Q h t b u e = subst (λ z. Q z.0 t z.1) (some-injective (a, t) (b, u) e) (h t)
+give_finds {A} a Q h t b u e = let same : ◌≡◌ {A = A × List ℕ} (a, t) (b, u) = cc in subst (λ (z : A × List ℕ). Q z.0 t z.1) same (h t)
 
 pub word_finds : {A : Type 0} (word : List ℕ) (next : Reader A) (Q : Claim A)
     → Finds next (λ a t u. Q a (word ++ t) u) → Finds (behind_word word next) Q
 unfolding behind_word
 word_finds word next Q h t a u e = case (behind word t) refl e
   where
-    case : (o : Option (List ℕ)) → behind word t ≡ o → beyond next o ≡ some (a, u) → Q a t u
-    case none o e = absurd (none-ne-some (a, u) e)
-    case (some v) o e = subst (λ s. Q a s u) (sym (behind_only word t v o)) (h v a u e)
+    case : (o : Option (List ℕ)) → behind word t ≡ o → beyond next o ≡ Some (a, u) → Q a t u
+    case None o e = absurd (none-some (a, u) e)
+    case (Some v) o e = subst (λ s. Q a s u) (sym (behind_only word t v o)) (h v a u e)
 
 pub bind_finds : {A B : Type 0} (first : Reader A) (next : A → Reader B) (Q : Claim B) {fits : A → Type 0} (text : A → List ℕ)
     → Only first fits text → ((x : A) → fits x → Finds (next x) (λ b t u. Q b (text x ++ t) u))
@@ -98,9 +99,9 @@ pub bind_finds : {A B : Type 0} (first : Reader A) (next : A → Reader B) (Q : 
 unfolding ◌>>=◌
 bind_finds {A} first next Q text only h t b u e = case (first t) refl e
   where
-    case : (o : Option (A × List ℕ)) → first t ≡ o → onward next o ≡ some (b, u) → Q b t u
-    case none o e = absurd (none-ne-some (b, u) e)
-    case (some (x, v)) o e = let found = only t x v o in subst (λ s. Q b s u) (sym found.1) (h x found.0 v b u e)
+    case : (o : Option (A × List ℕ)) → first t ≡ o → onward next o ≡ Some (b, u) → Q b t u
+    case None o e = absurd (none-some (b, u) e)
+    case (Some (x, v)) o e = let found = only t x v o in subst (λ s. Q b s u) (sym found.1) (h x found.0 v b u e)
 
 pub field_finds : {A B : Type 0} (word : List ℕ) (first : Reader A) (next : A → Reader B) (Q : Claim B) {fits : A → Type 0} (text : A → List ℕ)
     → Only first fits text → ((x : A) → fits x → Finds (next x) (λ b t u. Q b (word ++ (text x ++ t)) u))
@@ -111,6 +112,6 @@ pub or_finds : {A : Type 0} (first second : Reader A) (Q : Claim A) → Finds fi
 unfolding ◌or_else◌
 or_finds {A} first second Q h h' t a u e = case (first t) refl e
   where
-    case : (o : Option (A × List ℕ)) → first t ≡ o → otherwise o (second t) ≡ some (a, u) → Q a t u
-    case none o e = h' t a u e
-    case (some found) o e = h t a u (o ∙ e)
+    case : (o : Option (A × List ℕ)) → first t ≡ o → otherwise o (second t) ≡ Some (a, u) → Q a t u
+    case None o e = h' t a u e
+    case (Some found) o e = h t a u (o ∙ e)

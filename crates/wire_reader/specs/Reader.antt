@@ -1,13 +1,9 @@
 -- Reading a packet from its text, field by field (rule 15.5).
-use Rattle.std.specs.Prelude.{ℕ, zero, suc, ◌+◌, ◌*◌, Bool, true, false, cond, ◌&&◌, List, [], ◌∷◌, leb, ltb, eqb, length, get_or}
+use Rattle.std.specs.Prelude.{ℕ, zero, suc, ◌+◌, ◌*◌, Bool, true, false, cond, ◌&&◌, List, [], ◌∷◌, leb, ltb, eqb, length, get_or, Option, Some, None}
 use Prim.Native.String.{String}
-use Rattle.std.proofs.Math.Option.{Option, none, some}
 use Rattle.config.specs.Limits.{min_nodes, max_nodes, max_terms}
 use Rattle.network.specs.Graph.{set_of}
 use Rattle.network.specs.declared.units.Term.{Term}
-use Rattle.phy.specs.declared.packet.LastAccepted.{LastAccepted}
-use Rattle.phy.specs.declared.packet.Nack.{Nack}
-use Rattle.phy.specs.declared.packet.Data.{Data}
 use Rattle.phy.specs.declared.packet.Piggyback.{Piggyback}
 use Rattle.phy.specs.declared.packet.Packet.{Packet}
 use Rattle.text.specs.Text.{ascii}
@@ -22,28 +18,28 @@ Reader A = List ℕ → Option (A × List ℕ)
 
 -- what stands behind the word, where the word is at the front
 unfoldable pub behind : List ℕ → List ℕ → Option (List ℕ)
-behind [] t = some t
-behind (b ∷ word) [] = none
-behind (b ∷ word) (c ∷ t) = cond (eqb c b) (behind word t) none
+behind [] t = Some t
+behind (b ∷ word) [] = None
+behind (b ∷ word) (c ∷ t) = cond (eqb c b) (behind word t) None
 
 -- ---- readers one after the other
 
 -- this value, and nothing is taken
 unfoldable pub give : {A : Type 0} → A → Reader A
-give a t = some (a, t)
+give a t = Some (a, t)
 
 -- read on behind a value
 abbrev pub onward : {A B : Type 0} → (A → Reader B) → Option (A × List ℕ) → Option (B × List ℕ)
-onward next none = none
-onward next (some (a, t)) = next a t
+onward next None = None
+onward next (Some (a, t)) = next a t
 
 unfoldable pub ◌>>=◌ : {A B : Type 0} → Reader A → (A → Reader B) → Reader B
 (first >>= next) t = onward next (first t)
 
 -- read on behind a word
 abbrev pub beyond : {A : Type 0} → Reader A → Option (List ℕ) → Option (A × List ℕ)
-beyond next none = none
-beyond next (some t) = next t
+beyond next None = None
+beyond next (Some t) = next t
 
 unfoldable pub behind_word : {A : Type 0} → List ℕ → Reader A → Reader A
 behind_word word next t = beyond next (behind word t)
@@ -53,8 +49,8 @@ word >> next = behind_word (ascii word) next
 
 -- the first reader that finds a value
 abbrev pub otherwise : {A : Type 0} → Option (A × List ℕ) → Option (A × List ℕ) → Option (A × List ℕ)
-otherwise none other = other
-otherwise (some found) other = some found
+otherwise None other = other
+otherwise (Some found) other = Some found
 
 unfoldable pub ◌or_else◌ : {A : Type 0} → Reader A → Reader A → Reader A
 (first or_else second) t = otherwise (first t) (second t)
@@ -66,7 +62,7 @@ infixr 5 ◌or_else◌
 
 -- n, where it is below the bound
 unfoldable pub below : ℕ → ℕ → Reader ℕ
-below bound n t = cond (ltb n bound) (some (n, t)) none
+below bound n t = cond (ltb n bound) (Some (n, t)) None
 
 -- behind a number's first digit d: a second digit, but for a number that begins with 0
 unfoldable pub second_digit : ℕ → ℕ → Reader ℕ
@@ -75,47 +71,47 @@ second_digit bound d (b ∷ t) = cond (ltb 0 d && ltb (digit b) 10) (below bound
 
 -- A number below the bound in decimal, which has at most two digits and no 0 in front.
 unfoldable pub number : ℕ → Reader ℕ
-number bound [] = none
-number bound (a ∷ t) = cond (ltb (digit a) 10) (second_digit bound (digit a) t) none
+number bound [] = None
+number bound (a ∷ t) = cond (ltb (digit a) 10) (second_digit bound (digit a) t) None
 
 -- a term
 abbrev pub term : Reader ℕ
 term = number max_terms
 
 -- the last accepted term, or `null`
-unfoldable pub last_accepted : Reader LastAccepted
-last_accepted = ("null" >> give LastAccepted.None) or_else (term >>= λ t. give (LastAccepted.At (record { 0 = t })))
+unfoldable pub last_accepted : Reader (Option Term)
+last_accepted = ("null" >> give None) or_else (term >>= λ t. give (Some (record { 0 = t })))
 
 unfoldable pub flag : Reader Bool
 flag = ("true" >> give true) or_else ("false" >> give false)
 
 -- one to `most` flags, as far as the closing bracket
 unfoldable pub flags_in : ℕ → Reader (List Bool)
-flags_in zero t = none
+flags_in zero t = None
 flags_in (suc most) t = (flag >>= λ f. ("]" >> give (f ∷ [])) or_else ("," >> (flags_in most >>= λ fs. give (f ∷ fs)))) t
 
 -- the set of the nodes whose flag is true, and how many flags there are: two at least
 unfoldable pub counted : List Bool → Reader (ℕ × ℕ)
-counted fs t = cond (leb min_nodes (length fs)) (some ((set_of (length fs) (λ i. get_or fs i false), length fs), t)) none
+counted fs t = cond (leb min_nodes (length fs)) (Some ((set_of (length fs) (λ i. get_or fs i false), length fs), t)) None
 
 -- 2 to 32 flags in brackets
 unfoldable pub flags : Reader (ℕ × ℕ)
 flags = "[" >> (flags_in max_nodes >>= counted)
 
 -- data: empty, or that of the term
-unfoldable pub data_of : Term → Reader Data
-data_of t = behind_word (data_text Data.Empty) (give Data.Empty) or_else behind_word (data_text (Data.Of t)) (give (Data.Of t))
+unfoldable pub data_of : Term → Reader (Option Term)
+data_of t = behind_word (data_text None) (give None) or_else behind_word (data_text (Some t)) (give (Some t))
 
 -- a NACK of 0 is none
-abbrev pub nack : ℕ → Nack
-nack zero = Nack.None
-nack (suc t) = Nack.Of (record { 0 = suc t })
+abbrev pub nack : ℕ → Option Term
+nack zero = None
+nack (suc t) = Some (record { 0 = suc t })
 
 -- a piggyback's term and data, or `null` and no data
-unfoldable pub piggyback : Reader Piggyback
+unfoldable pub piggyback : Reader (Option Piggyback)
 piggyback =
-    ("null" >> ",\"piggyback_data\":" >> behind_word (data_text Data.Empty) (give Piggyback.None))
-    or_else (term >>= λ t. ",\"piggyback_data\":" >> (data_of (record { 0 = t }) >>= λ d. give (Piggyback.Of (record { 0 = t }) d)))
+    ("null" >> ",\"piggyback_data\":" >> behind_word (data_text None) (give None))
+    or_else (term >>= λ t. ",\"piggyback_data\":" >> (data_of (record { 0 = t }) >>= λ d. give (Some (record { term = record { 0 = t }; «data» = d }))))
 
 -- ---- the packet, field by field: a quoted word has to stand there, and `x ← r` is what r reads
 

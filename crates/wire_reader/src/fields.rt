@@ -1,110 +1,48 @@
 // A packet's text read from the front: what stands at a place, and the place behind it.
-ghost use Rattle.std.specs.Prelude.{◌≡◌, cond, ◌+◌, ◌≤◌, ◌<◌, ◌^◌, leb, ltb, length, get_or};
-ghost use Rattle.std.proofs.Math.Option.{none, some};
+ghost use Rattle.std.specs.Prelude.{◌≡◌, cond, ◌+◌, ◌≤◌, ◌<◌, ◌^◌, leb, ltb, length, get_or, Some, None};
 ghost use Rattle.config.specs.Limits.{max_nodes, max_terms, min_nodes};
 ghost use Rattle.text.specs.Numeral as Numeral;
 ghost use Rattle.wire_reader.specs.Reader as Spec;
-ghost use Rattle.wire_reader.specs.View.{ValueAt, WordAt, body_found, current_term_of, data_found, flag_found, flags_found, header_found, last_accepted_found, number_found, piggyback_found, word_found};
+ghost use Rattle.wire_reader.specs.View.{ValueAt, WordAt, current_term_of};
 
 use config::limits::{MAX_NODES, MAX_TERMS, MIN_NODES};
 use network::units::{NodeId, Term};
-use phy::packet::{Data, LastAccepted, Nack, Piggyback};
+use phy::packet::Piggyback;
 use text::numeral::digit;
+use text::overlay::Overlay;
 use wire::put::{DATA_SIZE, put_data};
 
 // A term is below this.
 const TERMS: u64 = MAX_TERMS as u64;
 
-// The place behind a word, if the word stands there.
-#[derive(Clone, Copy)]
-pub enum WordFound {
-    Before(usize),
-    None,
-}
-
-#[derive(Clone, Copy)]
-pub enum NumberFound {
-    Of(u64, usize),
-    None,
-}
-
-#[derive(Clone, Copy)]
-pub enum LastAcceptedFound {
-    Of(LastAccepted, usize),
-    None,
-}
-
-#[derive(Clone, Copy)]
-pub enum FlagFound {
-    Of(bool, usize),
-    None,
-}
-
-// The set of those that are true, and how many there are.
-#[derive(Clone, Copy)]
-pub enum FlagsFound {
-    Of(u64, u64, usize),
-    None,
-}
-
-#[derive(Clone, Copy)]
-pub enum DataFound {
-    Of(Data, usize),
-    None,
-}
-
-#[derive(Clone, Copy)]
-pub enum PiggybackFound {
-    Of(Piggyback, usize),
-    None,
-}
-
 // A packet's fields up to the sender, and its number of flags.
 #[derive(Clone, Copy)]
 pub struct Header {
     pub current_term: Term,
-    pub last_accepted_term: LastAccepted,
+    pub last_accepted_term: Option<Term>,
     pub flags_bitmap: u64,
     pub flags: u64,
-    pub nack_term: Nack,
+    pub nack_term: Option<Term>,
     pub sender: NodeId,
-}
-
-#[derive(Clone, Copy)]
-pub enum HeaderFound {
-    Of(Header, usize),
-    None,
 }
 
 // A packet's fields behind the sender.
 #[derive(Clone, Copy)]
 pub struct Body {
-    pub proposal_data: Data,
-    pub piggyback: Piggyback,
+    pub proposal_data: Option<Term>,
+    pub piggyback: Option<Piggyback>,
 }
 
-#[derive(Clone, Copy)]
-pub enum BodyFound {
-    Of(Body, usize),
-    None,
-}
-
-// A word at a place.
-fn word(word: &[u8], text: &[u8], at: usize) -> WordFound
+// The place behind a word, if the word stands at this place.
+fn word(word: &[u8], text: &[u8], at: usize) -> Option<usize>
     requires { at ≤ length text.now }
-    ensures { WordAt word.now text.now at (word_found result) }
+    ensures { WordAt word.now text.now at result }
 {
-    if text.len() - at < word.len() {
-        return WordFound::None;
+    if text[at..].starts_with(word) {
+        Some(at + word.len())
+    } else {
+        None
     }
-    let mut i = 0;
-    while i < word.len() {
-        if text[at + i] != word[i] {
-            return WordFound::None;
-        }
-        i += 1;
-    }
-    WordFound::Before(at + i)
 }
 
 // The digit at a place, 16 where there is none.
@@ -115,24 +53,20 @@ fn digit_at(text: &[u8], at: usize) -> u64
 }
 
 // The number, if it is below the bound.
-fn below(bound: u64, n: u64, next: usize) -> NumberFound
-    ensures { number_found result ≡ cond (ltb n bound) (some (n, next)) none }
+fn below(bound: u64, n: u64, next: usize) -> Option<(u64, usize)>
+    ensures { result ≡ cond (ltb n bound) (Some (n, next)) None }
 {
-    if n < bound {
-        NumberFound::Of(n, next)
-    } else {
-        NumberFound::None
-    }
+    if n < bound { Some((n, next)) } else { None }
 }
 
 // A number below the bound, of one digit or two.
-fn number(bound: u64, text: &[u8], at: usize) -> NumberFound
+fn number(bound: u64, text: &[u8], at: usize) -> Option<(u64, usize)>
     requires { at ≤ length text.now }
-    ensures { ValueAt (Spec.number bound) text.now at (number_found result) }
+    ensures { ValueAt (Spec.number bound) text.now at result }
 {
     let first = digit_at(text, at);
     if 10 <= first {
-        return NumberFound::None;
+        return None;
     }
     if first == 0 {
         return below(bound, 0, at + 1);
@@ -145,33 +79,27 @@ fn number(bound: u64, text: &[u8], at: usize) -> NumberFound
 }
 
 // A last accepted term or `null`, behind a label.
-fn last_accepted(label: &[u8], text: &[u8], at: usize) -> LastAcceptedFound
+fn last_accepted(label: &[u8], text: &[u8], at: usize) -> Option<(Option<Term>, usize)>
     requires { at ≤ length text.now }
-    ensures { ValueAt (Spec.behind_word label.now Spec.last_accepted) text.now at (last_accepted_found result) }
+    ensures { ValueAt (Spec.behind_word label.now Spec.last_accepted) text.now at result }
 {
-    let WordFound::Before(start) = word(label, text, at) else {
-        return LastAcceptedFound::None;
-    };
-    if let WordFound::Before(next) = word(b"null", text, start) {
-        return LastAcceptedFound::Of(LastAccepted::None, next);
+    let start = word(label, text, at)?;
+    if let Some(next) = word(b"null", text, start) {
+        return Some((None, next));
     }
-    match number(TERMS, text, start) {
-        NumberFound::Of(t, next) => LastAcceptedFound::Of(LastAccepted::At(Term(t)), next),
-        NumberFound::None => LastAcceptedFound::None,
-    }
+    let (t, next) = number(TERMS, text, start)?;
+    Some((Some(Term(t)), next))
 }
 
-fn flag(text: &[u8], at: usize) -> FlagFound
+fn flag(text: &[u8], at: usize) -> Option<(bool, usize)>
     requires { at ≤ length text.now }
-    ensures { ValueAt (Spec.flag) text.now at (flag_found result) }
+    ensures { ValueAt (Spec.flag) text.now at result }
 {
-    if let WordFound::Before(next) = word(b"true", text, at) {
-        return FlagFound::Of(true, next);
+    if let Some(next) = word(b"true", text, at) {
+        return Some((true, next));
     }
-    if let WordFound::Before(next) = word(b"false", text, at) {
-        return FlagFound::Of(false, next);
-    }
-    FlagFound::None
+    let next = word(b"false", text, at)?;
+    Some((false, next))
 }
 
 // The set with node i in it if its flag is true.
@@ -183,163 +111,130 @@ fn with_flag(set: u64, i: usize, flag: bool) -> u64
 }
 
 // The set of n flags, if there are at least two.
-fn counted(set: u64, n: u64, next: usize) -> FlagsFound
-    ensures { flags_found result ≡ cond (leb min_nodes n) (some ((set, n), next)) none }
+fn counted(set: u64, n: u64, next: usize) -> Option<((u64, u64), usize)>
+    ensures { result ≡ cond (leb min_nodes n) (Some ((set, n), next)) None }
 {
-    if n < MIN_NODES {
-        return FlagsFound::None;
+    if MIN_NODES <= n {
+        Some(((set, n), next))
+    } else {
+        None
     }
-    FlagsFound::Of(set, n, next)
 }
 
 // Flags up to the closing bracket.
-fn flags_in(text: &[u8], at: usize) -> FlagsFound
+fn flags_in(text: &[u8], at: usize) -> Option<((u64, u64), usize)>
     requires { at ≤ length text.now }
-    ensures { ValueAt (Spec.◌>>=◌ (Spec.flags_in max_nodes) Spec.counted) text.now at (flags_found result) }
+    ensures { ValueAt (Spec.◌>>=◌ (Spec.flags_in max_nodes) Spec.counted) text.now at result }
 {
     let mut set = 0u64;
     let mut next = at;
-    let mut i = 0;
-    while i < MAX_NODES {
-        let FlagFound::Of(f, end) = flag(text, next) else {
-            return FlagsFound::None;
-        };
+    // By the node's number: how many flags there are is known at the bracket alone.
+    for i in 0..MAX_NODES {
+        let (f, end) = flag(text, next)?;
         set = with_flag(set, i, f);
-        i += 1;
-        if let WordFound::Before(behind) = word(b"]", text, end) {
-            return counted(set, i as u64, behind);
+        if let Some(behind) = word(b"]", text, end) {
+            return counted(set, i as u64 + 1, behind);
         }
-        let WordFound::Before(behind) = word(b",", text, end) else {
-            return FlagsFound::None;
-        };
-        next = behind;
+        next = word(b",", text, end)?;
     }
-    FlagsFound::None
+    None
 }
 
 // 2 to 32 flags in brackets, behind a label.
-fn flags(label: &[u8], text: &[u8], at: usize) -> FlagsFound
+fn flags(label: &[u8], text: &[u8], at: usize) -> Option<((u64, u64), usize)>
     requires { at ≤ length text.now }
-    ensures { ValueAt (Spec.behind_word label.now Spec.flags) text.now at (flags_found result) }
+    ensures { ValueAt (Spec.behind_word label.now Spec.flags) text.now at result }
 {
-    let WordFound::Before(start) = word(label, text, at) else {
-        return FlagsFound::None;
-    };
-    let WordFound::Before(next) = word(b"[", text, start) else {
-        return FlagsFound::None;
-    };
+    let start = word(label, text, at)?;
+    let next = word(b"[", text, start)?;
     flags_in(text, next)
 }
 
 // Data, empty or that of the term, behind a label.
-fn data(label: &[u8], term: Term, text: &[u8], at: usize) -> DataFound
+fn data(label: &[u8], term: Term, text: &[u8], at: usize) -> Option<(Option<Term>, usize)>
     requires { (term.0 < max_terms) × (at ≤ length text.now) }
-    ensures { ValueAt (Spec.behind_word label.now (Spec.data_of term)) text.now at (data_found result) }
+    ensures { ValueAt (Spec.behind_word label.now (Spec.data_of term)) text.now at result }
 {
-    let WordFound::Before(start) = word(label, text, at) else {
-        return DataFound::None;
-    };
-    if let WordFound::Before(next) = word(b"[]", text, start) {
-        return DataFound::Of(Data::Empty, next);
+    let start = word(label, text, at)?;
+    if let Some(next) = word(b"[]", text, start) {
+        return Some((None, next));
     }
     let mut own = [0u8; DATA_SIZE];
-    let size = put_data(Data::Of(term), &mut own, 0);
-    if let WordFound::Before(next) = word(&own[..size], text, start) {
-        return DataFound::Of(Data::Of(term), next);
-    }
-    DataFound::None
+    let mut over = Overlay {
+        out: &mut own,
+        at: 0,
+    };
+    put_data(&mut over, Some(term));
+    let size = over.at;
+    let next = word(&own[..size], text, start)?;
+    Some((Some(term), next))
 }
 
 // 0 is none.
-fn nack(n: u64) -> Nack
+fn nack(n: u64) -> Option<Term>
     ensures { result ≡ Spec.nack n }
 {
-    if n == 0 {
-        Nack::None
-    } else {
-        Nack::Of(Term(n))
-    }
+    if n == 0 { None } else { Some(Term(n)) }
 }
 
 // A piggyback's term and data, or `null` and no data, behind a label.
-fn piggyback(label: &[u8], text: &[u8], at: usize) -> PiggybackFound
+fn piggyback(label: &[u8], text: &[u8], at: usize) -> Option<(Option<Piggyback>, usize)>
     requires { at ≤ length text.now }
-    ensures { ValueAt (Spec.behind_word label.now Spec.piggyback) text.now at (piggyback_found result) }
+    ensures { ValueAt (Spec.behind_word label.now Spec.piggyback) text.now at result }
 {
-    let WordFound::Before(start) = word(label, text, at) else {
-        return PiggybackFound::None;
-    };
-    if let WordFound::Before(next) = word(b"null,\"piggyback_data\":[]", text, start) {
-        return PiggybackFound::Of(Piggyback::None, next);
+    let start = word(label, text, at)?;
+    if let Some(next) = word(b"null,\"piggyback_data\":[]", text, start) {
+        return Some((None, next));
     }
-    let NumberFound::Of(t, middle) = number(TERMS, text, start) else {
-        return PiggybackFound::None;
+    let (t, middle) = number(TERMS, text, start)?;
+    let (d, next) = data(b",\"piggyback_data\":", Term(t), text, middle)?;
+    let again = Piggyback {
+        term: Term(t),
+        data: d,
     };
-    let DataFound::Of(d, next) = data(b",\"piggyback_data\":", Term(t), text, middle) else {
-        return PiggybackFound::None;
-    };
-    PiggybackFound::Of(Piggyback::Of(Term(t), d), next)
+    Some((Some(again), next))
 }
 
 // A number below the bound, behind a label.
-fn labelled_number(label: &[u8], bound: u64, text: &[u8], at: usize) -> NumberFound
+fn labelled_number(label: &[u8], bound: u64, text: &[u8], at: usize) -> Option<(u64, usize)>
     requires { at ≤ length text.now }
-    ensures { ValueAt (Spec.behind_word label.now (Spec.number bound)) text.now at (number_found result) }
+    ensures { ValueAt (Spec.behind_word label.now (Spec.number bound)) text.now at result }
 {
-    let WordFound::Before(next) = word(label, text, at) else {
-        return NumberFound::None;
-    };
+    let next = word(label, text, at)?;
     number(bound, text, next)
 }
 
 // The fields up to the sender, from the text's start on.
-pub fn read_header(text: &[u8]) -> HeaderFound
-    ensures { ValueAt Spec.header text.now 0 (header_found result) × (current_term_of (header_found result) < max_terms) }
+pub fn read_header(text: &[u8]) -> Option<(Header, usize)>
+    ensures { ValueAt Spec.header text.now 0 result × (current_term_of result < max_terms) }
 {
-    let NumberFound::Of(current, a) = labelled_number(b"{\"current_term\":", TERMS, text, 0) else {
-        return HeaderFound::None;
-    };
-    let LastAcceptedFound::Of(last, b) = last_accepted(b",\"last_accepted_term\":", text, a) else {
-        return HeaderFound::None;
-    };
-    let FlagsFound::Of(set, n, c) = flags(b",\"flags_bitmap\":", text, b) else {
-        return HeaderFound::None;
-    };
-    let NumberFound::Of(asked, d) = labelled_number(b",\"nack_term\":", TERMS, text, c) else {
-        return HeaderFound::None;
-    };
-    let NumberFound::Of(sender, next) = labelled_number(b",\"sender\":", n, text, d) else {
-        return HeaderFound::None;
-    };
-    let nack_term = nack(asked);
+    let (current, a) = labelled_number(b"{\"current_term\":", TERMS, text, 0)?;
+    let (last, b) = last_accepted(b",\"last_accepted_term\":", text, a)?;
+    let ((set, n), c) = flags(b",\"flags_bitmap\":", text, b)?;
+    let (asked, d) = labelled_number(b",\"nack_term\":", TERMS, text, c)?;
+    let (sender, next) = labelled_number(b",\"sender\":", n, text, d)?;
     let header = Header {
         current_term: Term(current),
         last_accepted_term: last,
         flags_bitmap: set,
         flags: n,
-        nack_term,
+        nack_term: nack(asked),
         sender: NodeId(sender as usize),
     };
-    HeaderFound::Of(header, next)
+    Some((header, next))
 }
 
 // The fields behind the sender, and the closing brace.
-pub fn read_body(current: Term, text: &[u8], at: usize) -> BodyFound
+pub fn read_body(current: Term, text: &[u8], at: usize) -> Option<(Body, usize)>
     requires { (current.0 < max_terms) × (at ≤ length text.now) }
-    ensures { ValueAt (Spec.body current) text.now at (body_found result) }
+    ensures { ValueAt (Spec.body current) text.now at result }
 {
-    let DataFound::Of(own, a) = data(b",\"proposal_data\":", current, text, at) else {
-        return BodyFound::None;
-    };
-    let PiggybackFound::Of(again, b) = piggyback(b",\"piggyback_term\":", text, a) else {
-        return BodyFound::None;
-    };
-    let WordFound::Before(next) = word(b"}", text, b) else {
-        return BodyFound::None;
-    };
+    let (own, a) = data(b",\"proposal_data\":", current, text, at)?;
+    let (again, b) = piggyback(b",\"piggyback_term\":", text, a)?;
+    let next = word(b"}", text, b)?;
     let body = Body {
         proposal_data: own,
         piggyback: again,
     };
-    BodyFound::Of(body, next)
+    Some((body, next))
 }

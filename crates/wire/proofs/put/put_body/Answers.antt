@@ -6,4 +6,4 @@ use Rattle.wire.proofs.put.put_body.Goals as goal
 pub returns : goal.returns
 unfolding ascii body_text
 returns c =
-    c.put_word-a.ensures then c.put_data-b.ensures then c.put_word-c.ensures then c.put_piggyback-d.ensures then c.put.ensures
+    c.put_word.ensures then c.put_data.ensures then c.put_word-2.ensures then c.put_piggyback.ensures then c.put.ensures

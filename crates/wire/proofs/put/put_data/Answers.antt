@@ -5,10 +5,10 @@ use Rattle.wire.specs.Grammar.{array, data_text}
 use Rattle.wire.proofs.Arrays.{data_text_lem}
 use Rattle.wire.proofs.put.put_data.Goals as goal
 
-pub returns-in-Empty : goal.returns-in-Empty
+pub returns-in-None : goal.returns-in-None
 unfolding ascii data_text array
-returns-in-Empty c = rw c.in-Empty.is (within c.put_word.ensures (omega arith))
+returns-in-None c = rw c.in-None.is (within c.put_word.ensures (omega arith))
 
-pub returns-in-Of : goal.returns-in-Of
+pub returns-in-Some : goal.returns-in-Some
 unfolding ascii
-returns-in-Of c = rw (c.in-Of.is, data_text_lem c.in-Of.t) (c.put_word-a.ensures then c.put_digits-b.ensures then c.put.ensures)
+returns-in-Some c = rw (c.in-Some.is, data_text_lem c.in-Some.t) (c.put_word-in-Some.ensures then c.put_digits.ensures then c.put.ensures)

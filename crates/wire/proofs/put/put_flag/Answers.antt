@@ -15,7 +15,7 @@ returns-then-has c =
       | then-i-eq0 w ↦ mark_first _ w.if-i-eq0.true ∙ ap (λ (b : ℕ). b ∷ []) (sym w.mark-is)
       | else-i-eq0 w ↦ mark_other _ w.if-i-eq0.false ∙ ap (λ (b : ℕ). b ∷ []) (sym w.mark-is)
     ] in
-    rw (marked, sym c.has.ensures ∙ c.if-has.true) (within (c.put-a.ensures then c.put_word.ensures) (omega arith))
+    rw (marked, sym c.has.ensures ∙ c.if-has.true) (within (c.put.ensures then c.put_word.ensures) (omega arith))
 
 pub returns-else-has : goal.returns-else-has
 unfolding ascii
@@ -25,4 +25,4 @@ returns-else-has c =
       | then-i-eq0 w ↦ mark_first _ w.if-i-eq0.true ∙ ap (λ (b : ℕ). b ∷ []) (sym w.mark-is)
       | else-i-eq0 w ↦ mark_other _ w.if-i-eq0.false ∙ ap (λ (b : ℕ). b ∷ []) (sym w.mark-is)
     ] in
-    rw (marked, sym c.has.ensures ∙ c.if-has.false) (within (c.put-a.ensures then c.put_word-else-has.ensures) (omega arith))
+    rw (marked, sym c.has.ensures ∙ c.if-has.false) (within (c.put.ensures then c.put_word-else-has.ensures) (omega arith))

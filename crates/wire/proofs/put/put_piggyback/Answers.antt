@@ -8,6 +8,6 @@ pub returns-in-None : goal.returns-in-None
 unfolding ascii piggyback_text data_text array
 returns-in-None c = rw c.in-None.is (within c.put_word.ensures (omega arith))
 
-pub returns-in-Of : goal.returns-in-Of
+pub returns-in-Some : goal.returns-in-Some
 unfolding ascii piggyback_text
-returns-in-Of c = rw c.in-Of.is (c.put_small-a.ensures then c.put_word-b.ensures then c.put_data.ensures)
+returns-in-Some c = rw c.in-Some.is (c.put_small.ensures then c.put_word-in-Some.ensures then c.put_data.ensures)

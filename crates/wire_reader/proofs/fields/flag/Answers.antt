@@ -1,30 +1,22 @@
-use Rattle.std.proofs.Common.{ap, ◌∙◌}
+use Rattle.std.proofs.Common.{◌∙◌}
 use Rattle.text.specs.Text.{ascii}
 use Rattle.wire_reader.specs.Reader.{flag, give}
-use Rattle.wire_reader.specs.View.{word_found}
 use Rattle.wire_reader.proofs.Words.{or_first, or_second}
-use Rattle.wire_reader.proofs.Places.{value_none, value_some, word_missing, word_passed, word_inside}
+use Rattle.wire_reader.proofs.Places.{value_none, value_some, word_missing, word_passed}
 use Rattle.wire_reader.proofs.fields.flag.Goals as goal
 
-pub returns-in-Before : goal.returns-in-Before
+pub returns-in-Some : goal.returns-in-Some
 unfolding flag give ascii
-returns-in-Before c =
-    let next = c.in-Before.next in
-    let e = ap word_found c.in-Before.is in
-    value_some (or_first _ _ _ (word_passed _ c.word.ensures next e)) (word_inside next c.word.ensures e)
+returns-in-Some c = let yes = c.in-Some.ensures in value_some (or_first _ _ _ (word_passed _ yes)) yes.inside
 
-pub returns-in-Before-word : goal.returns-in-Before-word
+pub returns-in_err-next : goal.returns-in_err-next
 unfolding flag give ascii
-returns-in-Before-word c =
-    let next = c.in-Before-word.next in
-    let e = ap word_found c.in-Before-word.is in
-    value_some
-    (or_second _ _ _ (word_missing _ c.word.ensures (ap word_found c.in_default.is)) ∙ word_passed _ c.word-2.ensures next e)
-    (word_inside next c.word-2.ensures e)
+returns-in_err-next c =
+    rw c.from_residual.ensures
+    (value_none (or_second _ _ _ (word_missing _ c.in_default.ensures) ∙ word_missing _ c.in_err-next.ensures))
 
 pub returns : goal.returns
 unfolding flag give ascii
 returns c =
-    value_none
-    (or_second _ _ _ (word_missing _ c.word.ensures (ap word_found c.in_default.is))
-    ∙ word_missing _ c.word-2.ensures (ap word_found c.in_default-word.is))
+    let no = c.in_ok-next.ensures in
+    value_some (or_second _ _ _ (word_missing _ c.in_default.ensures) ∙ word_passed _ no) no.inside
