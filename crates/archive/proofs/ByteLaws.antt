@@ -1,16 +1,18 @@
 -- Numbers as bytes, the lowest first, and lists of bytes compared. Assumes nothing.
 use Prim.Native.Nat.{ℕ, zero, suc, ◌+◌, ◌*◌, ◌/◌, ◌%◌, ◌^◌, ◌-◌, ◌≤◌, ◌<◌}
-use mathlib.Core.Path.{◌≡◌, refl, sym, ap, ap₂, ◌∙◌}
+use mathlib.Core.Path.{◌≡◌, refl, sym, ap, ◌∙◌}
 use mathlib.Core.Bool.{Bool, true, false, ◌&&◌, and_assoc, true≢false}
 use mathlib.Core.List.{List, [], ◌∷◌, ◌++◌, append_assoc, append-nil}
 use mathlib.Core.Logic.{◌⊎◌, inl, inr, ⊎_elim}
 use native.Mathlib.Nat.{pow-suc, pow-le-pow_right, add-zero, lt_of_lt_of_le}
 use native.Mathlib.Numerals.{add-one}
 use native.Mathlib.Omega.{arith}
+use borrow.Rule.Slice.PartMut.{put_mid, Post-is}
 use borrow.Author.Tests.{eq-eqb, eqb-true, ltb-true, ltb-false}
 use lib.Dec.{eqb, ltb}
 use lib.ListN.{length, get_or, take, drop, set, length-append, length-take, length-drop, take-append-drop, drop_of_length-le, get_or-eq_default}
-use lib.Seq.{sets, drop-cons, get_or-take, get_or-drop, length-take-le, take-suc, take-add, take_at, drop-drop, drop-append-add}
+use lib.Seq.{sets, sets-eq, drop-cons, get_or-append-add, get_or-take, get_or-drop, length-take-le, take-suc, take-add, take_at, drop-drop, drop-append-add}
+use Rattle.std.proofs.lemmas.Slice.Eq.{bytes_eq-Decides}
 use Rattle.archive.specs.Bytes.{byte_values, number_size, bytes_of, number_of, numbers_bytes, number_in, AreBytes, same_bytes}
 
 -- ---- tests
@@ -80,11 +82,37 @@ number_in_lt bytes are size at most h =
     (number_lt part (bytes_part bytes are size at))
     (pow-le-pow_right (omega arith) (omega (arith, length-take size (drop at bytes))))
 
--- the lowest byte, and the number in those behind it
-pub number_more :
-    (bytes : List ℕ) (size at : ℕ) → at < length bytes → number_in (suc size) at bytes ≡ get_or bytes at 0 + byte_values * number_in size (at + 1) bytes
+-- a number read from its last byte on, as far as the bytes that are left
+pub record ReadBack (bytes left : List ℕ) (number : ℕ) : Type 0 where
+  pub read : List ℕ
+  pub whole : bytes ≡ left ++ read
+  pub value : number ≡ number_of read
+
+pub read_none : (bytes : List ℕ) → ReadBack bytes bytes 0
 unfolding number_of
-number_more bytes size at inside = rw (drop-cons bytes at 0 inside, add-one)
+read_none bytes = record { read = []; whole = sym (append-nil bytes); value = refl }
+
+pub read_more :
+    {bytes left others : List ℕ} {number : ℕ} (byte : ℕ) → left ≡ others ++ (byte ∷ []) → ReadBack bytes left number → ReadBack bytes others (byte + byte_values * number)
+unfolding number_of
+read_more {bytes} {left} {others} {number} byte e r =
+    record {
+      read = byte ∷ r.read;
+      whole = r.whole ∙ ap (λ (l : List ℕ). l ++ r.read) e ∙ append_assoc others (byte ∷ []) r.read;
+      value = ap (λ n. byte + byte_values * n) r.value;
+    }
+
+pub read_all : {bytes : List ℕ} {number : ℕ} (left : List ℕ) → length left ≡ 0 → ReadBack bytes left number → number ≡ number_of bytes
+read_all [] e r = r.value ∙ ap number_of (sym r.whole)
+read_all (b ∷ left) e r = absurd (omega arith)
+
+pub read_lt : {bytes left : List ℕ} {number : ℕ} (most : ℕ) → AreBytes bytes → length bytes ≤ most → ReadBack bytes left number → number < byte_values ^ most
+read_lt {bytes} {left} {number} most are few r =
+    let long : length bytes ≡ length left + length r.read = ap length r.whole ∙ length-append left r.read in
+    let each : AreBytes r.read =
+    λ i. omega (arith, are (length left + i), ap (λ (l : List ℕ). get_or l (length left + i) 0) r.whole, get_or-append-add left r.read i 0) in
+    let small : number_of r.read < byte_values ^ most = lt_of_lt_of_le (number_lt r.read each) (pow-le-pow_right (omega arith) (omega (arith, long))) in
+    omega (arith, small, r.value)
 
 -- ---- numbers one behind the other
 
@@ -132,24 +160,28 @@ sets_append l i (b ∷ s) t =
     let e : i + suc (length s) ≡ suc i + length s = omega arith in
     sets_append (set l i b) (suc i) s t ∙ ap (λ n. sets (sets (set l i b) (suc i) s) n t) (sym e)
 
--- ---- bytes compared
+-- a list written over another of its length
+pub sets_all : (l ys : List ℕ) → length ys ≡ length l → sets l 0 ys ≡ ys
+sets_all l ys e =
+    let none : drop (0 + length ys) l ≡ [] = drop_of_length-le l {i = 0 + length ys} (omega arith) in
+    sets-eq ys l 0 (omega arith) ∙ ap (λ (rest : List ℕ). ys ++ rest) none ∙ append-nil ys
 
-pub same_refl : (x : List ℕ) → same_bytes x x ≡ true
-unfolding same_bytes
-same_refl [] = refl
-same_refl (a ∷ x) = rw (eq-eqb a a refl) (same_refl x)
+-- and over a part of another
+pub sets_part : (l ys : List ℕ) (at e : ℕ) → e ≡ at + length ys → e ≤ length l → put_mid at (e - at) l ys ≡ sets l at ys
+sets_part l ys at e is fits =
+    ap (λ (rest : List ℕ). take at l ++ (ys ++ rest)) (Post-is at e l (omega (arith, is)) ∙ ap (λ (k : ℕ). drop k l) is)
+    ∙ sym (append_assoc (take at l) ys (drop (at + length ys) l))
+    ∙ sym (sets-eq ys l at (omega (arith, is, fits)))
+
+-- ---- bytes compared
 
 pub same_true : (x y : List ℕ) → same_bytes x y ≡ true → x ≡ y
 unfolding same_bytes
-same_true [] [] e = refl
-same_true [] (b ∷ y) e = absurd (true≢false (sym e))
-same_true (a ∷ x) [] e = absurd (true≢false (sym e))
-same_true (a ∷ x) (b ∷ y) e =
-    let parts = both (eqb a b) (same_bytes x y) e in
-    ap₂ (λ (c : ℕ) (l : List ℕ). c ∷ l) (eqb-true a b parts.0) (same_true x y parts.1)
+same_true x y = (bytes_eq-Decides x y).0
 
 pub same_eq : {x y : List ℕ} → x ≡ y → same_bytes x y ≡ true
-same_eq {x} e = rw (← e) (same_refl x)
+unfolding same_bytes
+same_eq {x} {y} = (bytes_eq-Decides x y).1
 
 pub same_append :
     (x x' y y' : List ℕ) → length x ≡ length y → same_bytes (x ++ x') (y ++ y') ≡ (same_bytes x y && same_bytes x' y')
@@ -177,13 +209,12 @@ same_number size bytes x e are small =
 
 -- a byte written, of a number in the bytes from a place on
 pub bytes_more :
-    (out : List ℕ) (at size i rest : ℕ) → i < size →
-    sets (set out (at + i) (rest % byte_values)) (at + (i + 1)) (bytes_of (size - (i + 1)) (rest / byte_values)) ≡ sets out (at + i) (bytes_of (size - i) rest)
+    (out : List ℕ) (size i rest : ℕ) → i < size →
+    sets (set out i (rest % byte_values)) (i + 1) (bytes_of (size - (i + 1)) (rest / byte_values)) ≡ sets out i (bytes_of (size - i) rest)
 unfolding bytes_of
-bytes_more out at size i rest h =
+bytes_more out size i rest h =
     let left : size - i ≡ suc (size - (i + 1)) = omega arith in
-    let next : at + (i + 1) ≡ suc (at + i) = omega arith in
-    rw (left, next)
+    rw (left, add-one)
 
 -- a number written behind the first i of these
 pub numbers_more :
@@ -195,26 +226,6 @@ numbers_more out at xs i h =
     rw (add-one i, take-suc xs i 0 h, numbers_append, append-nil, sets_append, written)
 
 module _ (bytes : List ℕ) (at : ℕ) where
-  -- whether the bytes from a place on are these, from the i-th on
-  abbrev pub bytes_left : List ℕ → ℕ → Bool
-  bytes_left others i = same_bytes (take (length others - i) (drop (at + i) bytes)) (drop i others)
-
-  pub bytes_left_lem :
-      (others : List ℕ) (i : ℕ) → i < length others → at + length others ≤ length bytes →
-      bytes_left others i ≡ (eqb (get_or bytes (at + i) 0) (get_or others i 0) && bytes_left others (i + 1))
-  unfolding same_bytes
-  bytes_left_lem others i h room =
-      let left : length others - i ≡ suc (length others - (i + 1)) = omega arith in
-      let next : at + (i + 1) ≡ suc (at + i) = omega arith in
-      rw (left, next, add-one i, drop-cons bytes (at + i) 0 (omega arith), drop-cons others i 0 h)
-
-  -- nothing is left
-  pub no_bytes_left : (others : List ℕ) (i : ℕ) → length others ≤ i → bytes_left others i ≡ true
-  unfolding same_bytes
-  no_bytes_left others i h =
-      let none : length others - i ≡ 0 = omega arith in
-      rw (none, drop_of_length-le others h)
-
   -- whether the bytes from a place on are those of these numbers, from the i-th on
   abbrev pub numbers_left : List ℕ → ℕ → Bool
   numbers_left xs i = same_bytes (take (number_size * (length xs - i)) (drop (at + number_size * i) bytes)) (numbers_bytes (drop i xs))

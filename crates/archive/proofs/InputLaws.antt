@@ -10,8 +10,7 @@ use lib.Dec.{T, eqb}
 use lib.Ieee.{binary64, of_bits, is_nan}
 use lib.Ieee.Bits.{to_bits-of_bits, of_bits-to_bits, to_bits-lt}
 use lib.ListN.{length, get_or, take}
-use Rattle.config.specs.declared.RoundSlots.{RoundSlots}
-use Rattle.config.specs.declared.RoundSlots.TheVariants.{Absent, Of}
+use Rattle.std.proofs.Common.{Option, Some, None}
 use Rattle.config.specs.declared.Config.{Config}
 use Rattle.archive.specs.Bytes.{number_size, number_of, numbers_bytes, AreBytes}
 use Rattle.archive.specs.Layout.{inputs_size}
@@ -20,14 +19,14 @@ use Rattle.archive.specs.declared.inputs.Inputs.{Inputs}
 use Rattle.archive.proofs.ByteLaws.{two, number_in_lt, number_at, numbers_again}
 use Rattle.archive.proofs.Orders.{part_of_front}
 
-slots_back : (s : RoundSlots) → (s ≡ Of absent_slots → ⊥) → slots_from (slots_number s) ≡ s
-slots_back Absent h = refl
-slots_back (Of n) h = rw (ne_eqb n absent_slots (λ e. h (ap Of e)))
+slots_back : (s : Option ℕ) → (s ≡ Some absent_slots → ⊥) → slots_from (slots_number s) ≡ s
+slots_back None h = refl
+slots_back (Some n) h = rw (ne_eqb n absent_slots (λ e. h (ap Some e)))
 
 slots_again : (n : ℕ) → slots_number (slots_from n) ≡ n
 slots_again n = ⊎_elim (λ e. rw e (sym (eqb-true n absent_slots e))) (λ e. rw e) (two (eqb n absent_slots))
 
-pub inputs_back : (x : Inputs) → Fitting x → (x.config.round_slots ≡ Of absent_slots → ⊥) → inputs_in (numbers_bytes (input_numbers x)) ≡ x
+pub inputs_back : (x : Inputs) → Fitting x → (x.config.round_slots ≡ Some absent_slots → ⊥) → inputs_in (numbers_bytes (input_numbers x)) ≡ x
 inputs_back x f told =
     let c : Config = x.config in
     let back : (i : ℕ) → i < 10 → get_or (input_numbers x) i 0 < 2 ^ 64 → field_in (numbers_bytes (input_numbers x)) i ≡ get_or (input_numbers x) i 0 =

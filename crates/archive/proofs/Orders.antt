@@ -10,8 +10,10 @@ use borrow.Author.Tests.{eq-eqb, eqb-true, le-leb, leb-true, lt-ltb}
 use lib.Dec.{lit<}
 use lib.ListN.{length, get_or, take, drop, set, length-drop}
 use lib.Seq.{sets, take-nil, take-take, drop-drop, length-take-le}
+use Rattle.std.proofs.Common.{Bool, cond, refl, Ok, Err}
+use Rattle.config.specs.declared.refusal.Refusal.{Refusal}
 use Rattle.config.specs.Limits.{log_size}
-use Rattle.archive.specs.Layout.{marker, section_count, first_offset, inputs_size, totals_size, record_bytes, snapshot_bytes, offset_in, length_in, end_in, in_order, lengths_fit, layout, section_in, handed_out}
+use Rattle.archive.specs.Layout.{marker, section_count, first_offset, inputs_size, totals_size, record_bytes, snapshot_bytes, offset_in, length_in, end_in, in_order, lengths_fit, layout, Answer, layout_of, section_in, handed_out}
 use Rattle.archive.proofs.ByteLaws.{both, no_test}
 
 -- where section i begins if the sections are in order
@@ -113,6 +115,24 @@ keeps file e =
       in_turn = ordered file p2.1;
       in_size = sized file p3.1;
     }
+
+abbrev answer_of : Bool → Answer
+answer_of kept = cond kept (Ok tt) (Err Refusal.BrokenLayout)
+
+no_refusal : (b : Bool) {u : Unit {0}} → Ok u ≡ answer_of b → b ≡ true
+no_refusal true e = refl
+no_refusal false e = cc
+
+a_refusal : (b : Bool) {r : Refusal} → Err r ≡ answer_of b → (b ≡ false) × (r ≡ Refusal.BrokenLayout)
+a_refusal true e = cc
+a_refusal false e = (refl, cc)
+
+-- what a file is answered says whether it keeps the layout
+pub kept_ok : (file : List ℕ) {u : Unit {0}} → Ok u ≡ layout_of file → layout file ≡ true
+kept_ok file e = no_refusal (layout file) e
+
+pub kept_err : (file : List ℕ) {r : Refusal} → Err r ≡ layout_of file → (layout file ≡ false) × (r ≡ Refusal.BrokenLayout)
+kept_err file e = a_refusal (layout file) e
 
 pub has_layout : (file : List ℕ) → Keeps file → layout file ≡ true
 unfolding layout

@@ -1,5 +1,6 @@
 -- Numbers as bytes, the lowest first (rule 16.1).
-use Rattle.std.specs.Prelude.{ℕ, zero, suc, ◌+◌, ◌*◌, ◌/◌, ◌%◌, ◌<◌, Bool, true, false, ◌&&◌, List, [], ◌∷◌, ◌++◌, eqb, get_or, take, drop}
+use Rattle.std.specs.Prelude.{ℕ, zero, suc, ◌+◌, ◌*◌, ◌/◌, ◌%◌, ◌<◌, Bool, List, [], ◌∷◌, ◌++◌, get_or, take, drop}
+use Rattle.std.specs.Str.{bytes_eq}
 
 -- how many values a byte has
 abbrev pub byte_values : ℕ
@@ -34,7 +35,4 @@ AreBytes bytes = (i : ℕ) → get_or bytes i 0 < byte_values
 
 -- two lists are the same, byte for byte
 unfoldable pub same_bytes : List ℕ → List ℕ → Bool
-same_bytes [] [] = true
-same_bytes [] (b ∷ y) = false
-same_bytes (a ∷ x) [] = false
-same_bytes (a ∷ x) (b ∷ y) = eqb a b && same_bytes x y
+same_bytes = bytes_eq

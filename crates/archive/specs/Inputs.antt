@@ -1,9 +1,7 @@
 -- The ten input fields of a file (rule 16.3), in the line's order, and what is read from them.
-use Rattle.std.specs.Prelude.{ℕ, ◌*◌, ◌-◌, ◌^◌, ◌<◌, cond, List, [], ◌∷◌, T, eqb}
+use Rattle.std.specs.Prelude.{ℕ, ◌*◌, ◌-◌, ◌^◌, ◌<◌, cond, List, [], ◌∷◌, T, eqb, Option, Some, None}
 use Rattle.std.specs.Float.{binary64}
 use Rattle.std.specs.Float.Ieee.{fits, of_bits, to_bits}
-use Rattle.config.specs.declared.RoundSlots.{RoundSlots}
-use Rattle.config.specs.declared.RoundSlots.TheVariants.{Absent, Of}
 use Rattle.config.specs.declared.Config.{Config}
 use Rattle.archive.specs.Bytes.{number_size, number_in}
 use Rattle.archive.specs.declared.inputs.Inputs.{Inputs}
@@ -12,9 +10,9 @@ use Rattle.archive.specs.declared.inputs.Inputs.{Inputs}
 abbrev pub absent_slots : ℕ
 absent_slots = 2 ^ 64 - 1
 
-abbrev pub slots_number : RoundSlots → ℕ
-slots_number Absent = absent_slots
-slots_number (Of slots) = slots
+abbrev pub slots_number : Option ℕ → ℕ
+slots_number None = absent_slots
+slots_number (Some slots) = slots
 
 -- topology, first, second, repeats, round slots, loss as its f64's bits, seed, P, interval and slot limit
 abbrev pub input_numbers : Inputs → List ℕ
@@ -28,8 +26,8 @@ input_numbers x =
 abbrev pub field_in : List ℕ → ℕ → ℕ
 field_in section i = number_in number_size (number_size * i) section
 
-abbrev pub slots_from : ℕ → RoundSlots
-slots_from slots = cond (eqb slots absent_slots) Absent (Of slots)
+abbrev pub slots_from : ℕ → Option ℕ
+slots_from slots = cond (eqb slots absent_slots) None (Some slots)
 
 -- what the fields of a section ask for
 abbrev pub inputs_in : List ℕ → Inputs

@@ -1,10 +1,9 @@
 -- The layout of an archive file (rules 16.2 and 16.3): the first byte, the directory, and the five sections that it names.
-use Rattle.std.specs.Prelude.{ℕ, suc, ◌+◌, ◌*◌, ◌%◌, Bool, cond, ◌&&◌, List, [], ◌∷◌, eqb, leb, ltb, length, get_or, take, drop}
+use Rattle.std.specs.Prelude.{ℕ, suc, ◌+◌, ◌*◌, ◌%◌, Bool, cond, ◌&&◌, List, [], ◌∷◌, eqb, leb, ltb, length, get_or, take, drop, Result, Ok, Err}
 use Rattle.std.proofs.lemmas.List.Edits.{sets}
+use Rattle.config.specs.declared.refusal.Refusal.{Refusal}
 use Rattle.config.specs.Limits.{record_size, snapshot_size, log_size}
 use Rattle.archive.specs.Bytes.{number_size, number_in}
-use Rattle.archive.specs.declared.layout.Layout.{Layout}
-use Rattle.archive.specs.declared.layout.Layout.TheVariants.{Kept, Refused}
 
 -- the first byte
 abbrev pub marker : ℕ
@@ -78,12 +77,12 @@ lengths_fit file =
 unfoldable pub layout : List ℕ → Bool
 layout file = leb first_offset (length file) && eqb (get_or file 0 0) marker && in_order file && lengths_fit file
 
--- the number of the refusal: the file breaks the layout
-abbrev pub broken_layout : ℕ
-broken_layout = 17
+-- what a file is answered: nothing more, or 17
+abbrev pub Answer : Type 0
+Answer = Result (Unit {0}) Refusal
 
-abbrev pub layout_of : List ℕ → Layout
-layout_of file = cond (layout file) Kept (Refused broken_layout)
+abbrev pub layout_of : List ℕ → Answer
+layout_of file = cond (layout file) (Ok tt) (Err Refusal.BrokenLayout)
 
 -- ---- what a reader hands out
 
@@ -113,5 +112,5 @@ parts_in file =
     ∷ offset_in file 4 ∷ length_in file 4 ∷ []
 
 -- what telling them answers, and what the lent numbers then hold; a refusal leaves them as they were
-unfoldable pub parts_told : List ℕ → List ℕ → Layout × List ℕ
-parts_told file parts = cond (layout file) (Kept, sets parts 0 (parts_in file)) (Refused broken_layout, parts)
+unfoldable pub parts_told : List ℕ → List ℕ → Answer × List ℕ
+parts_told file parts = cond (layout file) (Ok tt, sets parts 0 (parts_in file)) (Err Refusal.BrokenLayout, parts)

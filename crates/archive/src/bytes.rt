@@ -9,35 +9,28 @@ pub const NUMBER_SIZE: usize = 8;
 // How many values a byte has.
 const BYTE_VALUES: u64 = 256;
 
-fn wide(byte: u8) -> u64
-    ensures { result ≡ byte }
-{
-    byte as u64
-}
-
 // The number in so many bytes from the place `at` on.
 pub fn number_in(bytes: &[u8], at: usize, size: usize) -> u64
     requires { (size ≤ number_size) × (at + size ≤ length bytes.now) }
     ensures { result ≡ number_in size at bytes.now }
 {
     let mut number = 0u64;
-    let mut left = size;
-    while 0 < left {
-        left -= 1;
-        number = wide(bytes[at + left]) + BYTE_VALUES * number;
+    for &byte in bytes[at..at + size].iter().rev() {
+        number = u64::from(byte) + BYTE_VALUES * number;
     }
     number
 }
 
-// Writes a number into so many bytes from the place `at` on.
+// Writes a number into so many bytes from the place `at` on. A slice in place of buffer and place, here and below, is no
+// plainer: a file is defined by what stands from which place on.
 pub fn put_bytes(number: u64, size: usize, out: &mut [u8], at: usize)
     requires { at + size ≤ length out.old }
     ensures { out.new ≡ sets out.old at (bytes_of size number) }
 {
     let mut rest = number;
-    for i in 0..size {
-        out[at + i] = (rest % BYTE_VALUES) as u8;
-        rest = rest / BYTE_VALUES;
+    for place in &mut out[at..at + size] {
+        *place = (rest % BYTE_VALUES) as u8;
+        rest /= BYTE_VALUES;
     }
 }
 
@@ -46,18 +39,19 @@ pub fn put_numbers(numbers: &[u64], count: usize, out: &mut [u8], at: usize)
     requires { (count ≤ length numbers.now) × (at + number_size * count ≤ length out.old) }
     ensures { out.new ≡ sets out.old at (numbers_bytes (take count numbers.now)) }
 {
-    for i in 0..count {
-        put_bytes(numbers[i], NUMBER_SIZE, out, at + NUMBER_SIZE * i);
+    for (i, &number) in numbers[..count].iter().enumerate() {
+        put_bytes(number, NUMBER_SIZE, out, at + NUMBER_SIZE * i);
     }
 }
 
-// Whether the bytes from the place `at` on are those of the first `count` numbers.
+// Whether the bytes from the place `at` on are those of the first `count` numbers. No equality of one type: a number is not
+// its bytes.
 pub fn are_numbers(bytes: &[u8], at: usize, numbers: &[u64], count: usize) -> bool
     requires { (count ≤ length numbers.now) × (at + number_size * count ≤ length bytes.now) }
     ensures { result ≡ same_bytes (take (number_size * count) (drop at bytes.now)) (numbers_bytes (take count numbers.now)) }
 {
-    for i in 0..count {
-        if number_in(bytes, at + NUMBER_SIZE * i, NUMBER_SIZE) != numbers[i] {
+    for (i, &number) in numbers[..count].iter().enumerate() {
+        if number_in(bytes, at + NUMBER_SIZE * i, NUMBER_SIZE) != number {
             return false;
         }
     }
@@ -69,10 +63,5 @@ pub fn are_bytes(bytes: &[u8], at: usize, others: &[u8]) -> bool
     requires { at + length others.now ≤ length bytes.now }
     ensures { result ≡ same_bytes (take (length others.now) (drop at bytes.now)) others.now }
 {
-    for i in 0..others.len() {
-        if bytes[at + i] != others[i] {
-            return false;
-        }
-    }
-    true
+    &bytes[at..at + others.len()] == others
 }

@@ -6,8 +6,8 @@ ghost use Rattle.archive.specs.Inputs.{slots_number, slots_from, input_numbers, 
 
 use super::bytes::{NUMBER_SIZE, number_in};
 use super::layout::INPUT_COUNT;
+use config::Config;
 use config::rate::rate_of;
-use config::{Config, RoundSlots};
 
 // A run of a named topology, as it is asked for.
 #[derive(Clone, Copy)]
@@ -19,24 +19,22 @@ pub struct Inputs {
 }
 
 // The number of absent round slots.
-const ABSENT_SLOTS: u64 = 0xffff_ffff_ffff_ffff;
+const ABSENT_SLOTS: u64 = u64::MAX;
 
-fn slots_number(slots: RoundSlots) -> u64
+// No From, here and below: neither type is ours.
+fn slots_number(slots: Option<u64>) -> u64
     ensures { result ≡ slots_number slots }
 {
-    match slots {
-        RoundSlots::Absent => ABSENT_SLOTS,
-        RoundSlots::Of(n) => n,
-    }
+    slots.unwrap_or(ABSENT_SLOTS)
 }
 
-fn slots_from(number: u64) -> RoundSlots
+fn slots_from(number: u64) -> Option<u64>
     ensures { result ≡ slots_from number }
 {
     if number == ABSENT_SLOTS {
-        RoundSlots::Absent
+        None
     } else {
-        RoundSlots::Of(number)
+        Some(number)
     }
 }
 

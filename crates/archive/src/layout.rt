@@ -1,20 +1,11 @@
 // The layout of an archive file: the first byte, the directory, and the five sections that it names.
 ghost use Rattle.std.specs.Prelude.{◌≡◌, List, ℕ, ◌≤◌, ◌<◌, length};
-ghost use Rattle.archive.specs.Layout.{section_count, first_offset, offset_in, length_in, in_order, lengths_fit, layout, layout_of, handed_out, parts_size, parts_told};
+ghost use Rattle.archive.specs.Layout.{Answer, section_count, first_offset, offset_in, length_in, in_order, lengths_fit, layout, layout_of, handed_out, parts_size, parts_told};
 
 use super::bytes::{NUMBER_SIZE, number_in};
 use config::limits::{LOG_SIZE, RECORD_SIZE, SNAPSHOT_SIZE};
+use config::refusal::Refusal;
 use metrics::totals::TOTAL_COUNT;
-
-// Whether a file keeps the layout, or the refusal with its number.
-#[derive(Clone, Copy)]
-pub enum Layout {
-    Kept,
-    Refused(u64),
-}
-
-// The file breaks the layout.
-pub const BROKEN_LAYOUT: u64 = 17;
 
 pub const MARKER: u8 = 5;
 
@@ -70,47 +61,43 @@ fn in_order(file: &[u8]) -> bool
     ensures { result ≡ in_order file.now }
 {
     let mut end = FIRST_OFFSET;
+    // By the section's number: it says where the directory has it.
     for i in 0..SECTION_COUNT {
         if offset_in(file, i) != end {
             return false;
         }
-        end = end + length_in(file, i);
+        end += length_in(file, i);
     }
     end == file.len()
 }
 
 // Whether the sections have the lengths that belong to them.
+#[tactic(auto, unfolding(crate::specs::Layout::lengths_fit))]
 fn lengths_fit(file: &[u8]) -> bool
     requires { first_offset ≤ length file.now }
     ensures { result ≡ lengths_fit file.now }
 {
-    (length_in(file, 0) == INPUTS_SIZE)
-        & (length_in(file, 1) == TOTALS_SIZE)
-        & (length_in(file, 2) % RECORD_BYTES == 0)
-        & (length_in(file, 3) % SNAPSHOT_BYTES == 0)
-        & (length_in(file, 4) == LOG_SIZE)
+    length_in(file, 0) == INPUTS_SIZE
+        && length_in(file, TOTALS) == TOTALS_SIZE
+        && length_in(file, RECORDS) % RECORD_BYTES == 0
+        && length_in(file, SNAPSHOTS) % SNAPSHOT_BYTES == 0
+        && length_in(file, LOGS) == LOG_SIZE
 }
 
 #[tactic(auto, unfolding(crate::specs::Layout::layout))]
 pub fn keeps_layout(file: &[u8]) -> bool
     ensures { result ≡ layout file.now }
 {
-    if file.len() < FIRST_OFFSET {
-        return false;
-    }
-    if file[0] != MARKER {
-        return false;
-    }
-    in_order(file) & lengths_fit(file)
+    FIRST_OFFSET <= file.len() && file[0] == MARKER && in_order(file) && lengths_fit(file)
 }
 
-pub fn layout_of(file: &[u8]) -> Layout
+pub fn layout_of(file: &[u8]) -> Result<(), Refusal>
     ensures { result ≡ layout_of file.now }
 {
     if keeps_layout(file) {
-        Layout::Kept
+        Ok(())
     } else {
-        Layout::Refused(BROKEN_LAYOUT)
+        Err(Refusal::BrokenLayout)
     }
 }
 
@@ -118,27 +105,24 @@ pub fn layout_of(file: &[u8]) -> Layout
 pub fn section_of(file: &[u8], i: usize) -> &[u8]
     ensures { result.now ≡ handed_out file.now i }
 {
-    if i < SECTION_COUNT {
-        if keeps_layout(file) {
-            let start = offset_in(file, i);
-            let end = start + length_in(file, i);
-            return &file[start..end];
-        }
+    if SECTION_COUNT <= i || !keeps_layout(file) {
+        return &file[..0];
     }
-    &file[0..0]
+    let start = offset_in(file, i);
+    let end = start + length_in(file, i);
+    &file[start..end]
 }
 
 // Offset and length of each section, into the first ten places of `parts`. A refusal leaves them as they were.
-pub fn put_parts(file: &[u8], parts: &mut [u64]) -> Layout
+pub fn put_parts(file: &[u8], parts: &mut [u64]) -> Result<(), Refusal>
     requires { parts_size ≤ length parts.old }
-    ensures { ◌≡◌ {A = Layout × List ℕ} (result, parts.new) (parts_told file.now parts.old) }
+    ensures { ◌≡◌ {A = Answer × List ℕ} (result, parts.new) (parts_told file.now parts.old) }
 {
-    if !keeps_layout(file) {
-        return Layout::Refused(BROKEN_LAYOUT);
-    }
+    layout_of(file)?;
+    // By the section's number: it says where the directory has it.
     for i in 0..SECTION_COUNT {
         parts[2 * i] = offset_in(file, i) as u64;
         parts[2 * i + 1] = length_in(file, i) as u64;
     }
-    Layout::Kept
+    Ok(())
 }

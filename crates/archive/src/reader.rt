@@ -2,7 +2,8 @@
 ghost use Rattle.std.specs.Prelude.{◌≡◌};
 ghost use Rattle.archive.specs.Layout.{layout_of, handed_out, behind};
 
-use super::layout::{Layout, SECTION_COUNT, layout_of, section_of};
+use super::layout::{SECTION_COUNT, layout_of, section_of};
+use config::refusal::Refusal;
 
 // The file, and the number of the section at hand.
 #[derive(Clone, Copy)]
@@ -19,7 +20,7 @@ pub fn open<'a>(file: &'a [u8]) -> Reader<'a>
 }
 
 // Whether the file keeps the layout.
-pub fn layout<'a>(r: Reader<'a>) -> Layout
+pub fn layout<'a>(r: Reader<'a>) -> Result<(), Refusal>
     ensures { result ≡ layout_of r.entry.file.now }
 {
     layout_of(r.file)

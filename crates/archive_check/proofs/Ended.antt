@@ -14,14 +14,14 @@ use Rattle.rules.specs.Entries.{logs_with, record_numbers}
 use Rattle.rules.proofs.Taken.{fives_run}
 use Rattle.rounds.specs.declared.run.Plan.{Plan}
 use Rattle.rounds.specs.declared.run.Stopped.{Stopped}
-use Rattle.rounds.specs.Going.{planned, Workspace}
+use Rattle.rounds.specs.Going.{planned, Contents}
 use Rattle.sim.specs.Filling.{summary_from}
 use Rattle.sim.proofs.Filled.{summary_is, logs_are, records_are}
 use Rattle.archive.specs.Bytes.{numbers_bytes, same_bytes}
 use Rattle.archive.specs.Layout.{layout, section_in}
 use Rattle.archive_check.specs.Again.{totals_of, records_of as recordsOfRun, snapshots_of, logs_of, gives_again}
 use Rattle.archive_check.specs.Check.{stored_in}
-use Rattle.archive_check.specs.Working.{agrees, shots_in, Replayed·Alike}
+use Rattle.archive_check.specs.Working.{agrees, shots_in, Alike}
 use Rattle.archive_check.proofs.Agreeing.{agrees_all}
 use Rattle.archive_check.proofs.Alike.{regroup}
 
@@ -31,27 +31,27 @@ no_more true true false d = refl
 no_more true false c d = refl
 no_more false b c d = refl
 
-module _ (graph : List ℕ) (p : Plan) (file : List ℕ) (ok : Accepted (planned graph p)) (kept : layout file ≡ true) where
+module _ (p : Plan) (file : List ℕ) (ok : Accepted (planned p)) (kept : layout file ≡ true) where
   abbrev g : Given
-  g = planned graph p
+  g = planned p
 
-  snapshots_told : same_bytes (section_in file 3) (snapshots_of (stored_in file) g) ≡ (leb (stored_in file) (length (shots_in graph p)) && agrees file (shots_in graph p))
+  snapshots_told : same_bytes (section_in file 3) (snapshots_of (stored_in file) g) ≡ (leb (stored_in file) (length (shots_in p)) && agrees file (shots_in p))
   snapshots_told = agrees_all file kept (fives_run g)
 
   abbrev rest : Bool → Bool
   rest b = same_bytes (section_in file 1) (totals_of g) && same_bytes (section_in file 2) (recordsOfRun g) && b && same_bytes (section_in file 4) (logs_of g)
 
-  pub differing : agrees file (shots_in graph p) ≡ false → gives_again g file ≡ false
+  pub differing : agrees file (shots_in p) ≡ false → gives_again g file ≡ false
   unfolding gives_again
   differing e =
-      ap rest (snapshots_told ∙ ap (λ (b : Bool). leb (stored_in file) (length (shots_in graph p)) && b) e)
-      ∙ no_more (same_bytes (section_in file 1) (totals_of g)) (same_bytes (section_in file 2) (recordsOfRun g)) (leb (stored_in file) (length (shots_in graph p))) (same_bytes (section_in file 4) (logs_of g))
+      ap rest (snapshots_told ∙ ap (λ (b : Bool). leb (stored_in file) (length (shots_in p)) && b) e)
+      ∙ no_more (same_bytes (section_in file 1) (totals_of g)) (same_bytes (section_in file 2) (recordsOfRun g)) (leb (stored_in file) (length (shots_in p))) (same_bytes (section_in file 4) (logs_of g))
 
-  pub alike : {r : Stopped} {w : Workspace} → Replayed·Alike graph p file r w
+  pub alike : {r : Stopped} {w : Contents} → Alike p file r w
       → (leb (stored_in file) r.run.flood.snapshots
-      && same_bytes (section_in file 1) (numbers_bytes (totals (summary_from p.nodes r)))
+      && same_bytes (section_in file 1) (numbers_bytes (totals (summary_from p.network.graph.nodes r)))
       && same_bytes (section_in file 2) (numbers_bytes (record_numbers (records_of r.run.carry.recorded.count w.history)))
-      && same_bytes (section_in file 4) (logs_with (replicate log_size 0) (states_of p.nodes w.states) p.nodes))
+      && same_bytes (section_in file 4) (logs_with (replicate log_size 0) (states_of p.network.graph.nodes w.states) p.network.graph.nodes))
       ≡ gives_again g file
   unfolding gives_again
   alike {r} {w} a =
@@ -61,5 +61,5 @@ module _ (graph : List ℕ) (p : Plan) (file : List ℕ) (ok : Accepted (planned
       && same_bytes (section_in file 1) (numbers_bytes (totals (summary_is o i)))
       && same_bytes (section_in file 2) (numbers_bytes (records_are o i))
       && same_bytes (section_in file 4) (logs_are o (replicate log_size 0) i))
-      ∙ regroup (leb (stored_in file) (length (shots_in graph p))) (same_bytes (section_in file 1) (totals_of g)) (same_bytes (section_in file 2) (recordsOfRun g)) (same_bytes (section_in file 4) (logs_of g))
-      ∙ ap rest (ap (λ (b : Bool). leb (stored_in file) (length (shots_in graph p)) && b) (sym a.alike) ∙ sym snapshots_told)
+      ∙ regroup (leb (stored_in file) (length (shots_in p))) (same_bytes (section_in file 1) (totals_of g)) (same_bytes (section_in file 2) (recordsOfRun g)) (same_bytes (section_in file 4) (logs_of g))
+      ∙ ap rest (ap (λ (b : Bool). leb (stored_in file) (length (shots_in p)) && b) (sym a.alike) ∙ sym snapshots_told)

@@ -15,20 +15,22 @@ use Rattle.phy.proofs.Due.{Grown, grown_none}
 use Rattle.phy.proofs.Fives.{Fives, none, fives_behind}
 use Rattle.phy.proofs.Snapshots.{scheduled_anew}
 use Rattle.rules.specs.Accepted.{Accepted}
+use Rattle.rules.specs.declared.answer.End.{End}
+use Rattle.rules.specs.Answers.{end_number}
 use Rattle.rules.specs.Run.{Given, Running, Ended, begin, run, run_round}
 use Rattle.rules.proofs.Taken.{DueIn, due_begin, due_next, grown_next, few_next, grown_through, fives_next, fives_run, end_in_time}
 use Rattle.rounds.specs.declared.run.Plan.{Plan}
 use Rattle.rounds.specs.declared.run.Run.{Run}
 use Rattle.rounds.specs.declared.run.Next.{Next}
-use Rattle.rounds.specs.declared.run.LastRound.TheVariants.{None}
+use Rattle.std.specs.Prelude.{Some, None}
 use Rattle.rounds.specs.declared.run.Stopped.{Stopped}
-use Rattle.rounds.specs.Going.{planned, Workspace, Shows, Steady, Going, MovesOn, Underway, NewRun}
+use Rattle.rounds.specs.Going.{planned, Contents, Shows, Steady, Going, MovesOn, Underway, NewRun}
 use Rattle.rounds.proofs.Underway.{underway_new, same_size, limit_is, run_is, goes_on}
 use Rattle.archive.specs.Bytes.{numbers_bytes, same_bytes}
 use Rattle.archive.specs.Layout.{snapshot_bytes, section_in}
 use Rattle.archive.proofs.ByteLaws.{two}
 use Rattle.archive_check.specs.Check.{stored_in}
-use Rattle.archive_check.specs.Working.{taken, agrees, shots_in, CanReplay, Replayed·Alike}
+use Rattle.archive_check.specs.Working.{taken, agrees, shots_in, CanReplay, Alike}
 use Rattle.archive_check.proofs.Agreeing.{and_yes, agrees_none, agrees_more, differs_on}
 
 -- ---- from here on, snapshots are stored from the buffer's start
@@ -54,7 +56,7 @@ anew x =
       progress = x.progress;
     }
 
-shows_anew : {p : Plan} {x : Run} {w : Workspace} {b₀ : List ℕ} {s : Running} → Shows p x w b₀ s → Shows p (anew x) w w.snapshots s
+shows_anew : {p : Plan} {x : Run} {w : Contents} {b₀ : List ℕ} {s : Running} → Shows p x w b₀ s → Shows p (anew x) w w.snapshots s
 shows_anew u =
     let st = u.standing in
     record {
@@ -74,7 +76,7 @@ shows_anew u =
       took_part = u.took_part;
     }
 
-steady_anew : {heard : ℕ → Bool} {p : Plan} {k : ℕ} {x : Run} {w : Workspace} → Steady heard p k x w → Steady heard p k (anew x) w
+steady_anew : {heard : ℕ → Bool} {p : Plan} {k : ℕ} {x : Run} {w : Contents} → Steady heard p k x w → Steady heard p k (anew x) w
 steady_anew u =
     let s = u.sound in
     record {
@@ -88,8 +90,8 @@ steady_anew u =
       piggybacks = u.piggybacks;
     }
 
-underway_anew : {graph : List ℕ} {p : Plan} {most k : ℕ} {x : Run} {w : Workspace} {b₀ : List ℕ} {here : Running}
-    → Underway graph p most k x w b₀ here → Underway graph p most k (anew x) w w.snapshots here
+underway_anew : {p : Plan} {most k : ℕ} {x : Run} {w : Contents} {b₀ : List ℕ} {here : Running}
+    → Underway p most k x w b₀ here → Underway p most k (anew x) w w.snapshots here
 underway_anew u =
     record {
       going = record { shows = shows_anew u.going.shows; steady = steady_anew u.going.steady; rounds = u.going.rounds; progress = u.going.progress };
@@ -98,43 +100,43 @@ underway_anew u =
     }
 
 -- ---- k rounds are played, and what they took agrees with the file
-pub record Comparing (graph : List ℕ) (p : Plan) (file : List ℕ) (k : ℕ) (x : Run) (w : Workspace) (size : ℕ) : Type 0 where
+pub record Comparing (p : Plan) (file : List ℕ) (k : ℕ) (x : Run) (w : Contents) (size : ℕ) : Type 0 where
   pub first : List ℕ
   pub here : Running
-  pub underway : Underway graph p (most_rounds p.config.num_proposals) k x w first here
-  pub due : DueIn (planned graph p) here
+  pub underway : Underway p (most_rounds p.config.num_proposals) k x w first here
+  pub due : DueIn (planned p) here
   pub fresh : x.flood.first_stored ≡ x.flood.snapshots
   pub fives : Fives here.standing.shots.taken
   pub alike : agrees file here.standing.shots.taken ≡ true
   pub sized : length w.snapshots ≡ size
 
-pub comparing_new : {graph : List ℕ} {p : Plan} {file : List ℕ} {x : Run} {w : Workspace} → CanReplay graph p file w → NewRun p.nodes x
-    → Comparing graph p file 0 x w (length w.snapshots)
-comparing_new {graph} {p} {file} {x} {w} can new =
-    let u = underway_new graph p (most_rounds p.config.num_proposals) x w can.go new in
+pub comparing_new : {p : Plan} {file : List ℕ} {x : Run} {w : Contents} → CanReplay p file w → NewRun p.network.graph.nodes x
+    → Comparing p file 0 x w (length w.snapshots)
+comparing_new {p} {file} {x} {w} can new =
+    let u = underway_new p (most_rounds p.config.num_proposals) x w can.go new in
     record {
       first = w.snapshots;
-      here = begin (planned graph p);
+      here = begin (planned p);
       underway = u;
-      due = due_begin (planned graph p) can.go.begins.accepted;
+      due = due_begin (planned p) can.go.begins.accepted;
       fresh = new.flood.all ∙ sym u.going.shows.standing.shots.number;
       fives = none;
       alike = agrees_none file can.kept;
       sized = refl;
     }
 
-module _ {graph : List ℕ} {p : Plan} {file : List ℕ} {w₀ : Workspace} (can : CanReplay graph p file w₀) {k : ℕ} {x : Run} {w : Workspace}
-    (c : Comparing graph p file k x w (length w₀.snapshots)) (more : k < most_rounds p.config.num_proposals) where
+module _ {p : Plan} {file : List ℕ} {w₀ : Contents} (can : CanReplay p file w₀) {k : ℕ} {x : Run} {w : Contents}
+    (c : Comparing p file k x w (length w₀.snapshots)) (more : k < most_rounds p.config.num_proposals) where
   abbrev g : Given
-  g = planned graph p
+  g = planned p
 
   abbrev ok : Accepted g
   ok = can.go.begins.accepted
 
   -- the run that ends here
-  ends_as : {r : Stopped} {v : Workspace} {b : List ℕ} {s : Running} → run g ≡ record { running = s; ended = r.ended } → Shows p r.run v b s
+  ends_as : {r : Stopped} {v : Contents} {b : List ℕ} {s : Running} → run g ≡ record { running = s; ended = end_number r.ended } → Shows p r.run v b s
       → Steady g.heard p r.rounds r.run v → length s.rounds ≡ r.rounds → r.rounds ≤ most_rounds p.config.num_proposals
-      → agrees file s.standing.shots.taken ≡ true → Replayed·Alike graph p file r v
+      → agrees file s.standing.shots.taken ≡ true → Alike p file r v
   ends_as {r} {v} {b} {s} e shows steady rounds few alike =
       record {
         first = b;
@@ -149,16 +151,16 @@ module _ {graph : List ℕ} {p : Plan} {file : List ℕ} {w₀ : Workspace} (can
       }
 
   -- the slot limit is reached
-  pub limit_reached : p.config.max_slots ≤ x.flood.slot.0 → Replayed·Alike graph p file (record { run = x; rounds = k; last = None; ended = 4 }) w
+  pub limit_reached : p.config.max_slots ≤ x.flood.slot.0 → Alike p file (record { run = x; rounds = k; last = None; ended = Some End.SlotLimit }) w
   limit_reached h =
       ends_as (limit_is c.underway more h) c.underway.going.shows c.underway.going.steady c.underway.going.rounds (omega arith) c.alike
 
   -- one round more
-  module _ (below : x.flood.slot.0 < p.config.max_slots) {r : Next} {w' : Workspace} (m : MovesOn graph p k x w r w') where
+  module _ (below : x.flood.slot.0 < p.config.max_slots) {r : Next} {w' : Contents} (m : MovesOn p k x w r w') where
     abbrev next : Running
     next = run_round g k c.here
 
-    going : Going graph p (k + 1) r.run w' c.first next
+    going : Going p (k + 1) r.run w' c.first next
     going = m.going c.first c.here c.underway.going
 
     abbrev grown : Grown c.here.standing next.standing
@@ -216,7 +218,7 @@ module _ {graph : List ℕ} {p : Plan} {file : List ℕ} {w₀ : Workspace} (can
       due_now = due_next g ok k c.here c.due
 
       -- no end came, so it was not the last round that a run may have
-      in_time : r.ended ≡ 0 → k + 1 ≡ most_rounds p.config.num_proposals → ⊥
+      in_time : end_number r.ended ≡ 0 → k + 1 ≡ most_rounds p.config.num_proposals → ⊥
       in_time z e = end_in_time g k next (omega (arith, e)) (sym (m.ended c.first c.here c.underway.going) ∙ z)
 
       -- what was taken so far stays to the run's end
@@ -224,22 +226,22 @@ module _ {graph : List ℕ} {p : Plan} {file : List ℕ} {w₀ : Workspace} (can
       grown_on =
           ⊎_elim
           (λ z.
-          let none_came : r.ended ≡ 0 = eqb-true r.ended 0 z in
+          let none_came : end_number r.ended ≡ 0 = eqb-true (end_number r.ended) 0 z in
           let u = goes_on c.underway more below m none_came (in_time none_came) in
           subst (λ (y : Ended). Grown next.standing y.running.standing) u.rest (grown_through g ok (most_rounds p.config.num_proposals - (k + 1)) (k + 1) next due_now))
-          (λ z. subst⁻¹ (λ (y : Ended). Grown next.standing y.running.standing) (run_is c.underway more below m (eqb-false r.ended 0 z))
+          (λ z. subst⁻¹ (λ (y : Ended). Grown next.standing y.running.standing) (run_is c.underway more below m (eqb-false (end_number r.ended) 0 z))
           (grown_none next.standing))
-          (two (eqb r.ended 0))
+          (two (eqb (end_number r.ended) 0))
 
-      pub differs : same ≡ false → agrees file (shots_in graph p) ≡ false
+      pub differs : same ≡ false → agrees file (shots_in p) ≡ false
       differs e =
           ap (agrees file) grown_on.grows ∙ differs_on file can.kept fives_now (fives_behind next.standing.shots.taken (subst Fives grown_on.grows (fives_run g))) (agrees_now ∙ e)
 
-      pub end_reached : same ≡ true → (r.ended ≡ 0 → ⊥) → Replayed·Alike graph p file (record { run = anew r.run; rounds = k + 1; last = None; ended = r.ended }) w'
+      pub end_reached : same ≡ true → (end_number r.ended ≡ 0 → ⊥) → Alike p file (record { run = anew r.run; rounds = k + 1; last = None; ended = r.ended }) w'
       end_reached e q =
           ends_as (run_is c.underway more below m q) (shows_anew going.shows) (steady_anew going.steady) going.rounds (omega (arith, more)) (agrees_now ∙ e)
 
-      pub compares_on : same ≡ true → r.ended ≡ 0 → Comparing graph p file (k + 1) (anew r.run) w' (length w₀.snapshots)
+      pub compares_on : same ≡ true → end_number r.ended ≡ 0 → Comparing p file (k + 1) (anew r.run) w' (length w₀.snapshots)
       compares_on e z =
           record {
             first = w'.snapshots;

@@ -1,7 +1,7 @@
 -- What running a file's first section afresh gives for its other four (rule 16.6).
-use Rattle.std.specs.Prelude.{ℕ, Bool, cond, ◌&&◌, take, replicate}
+use Rattle.std.specs.Prelude.{ℕ, Bool, false, ◌&&◌, take, replicate, Option, Some, None}
 use mathlib.Core.List.{List, flatten}
-use Rattle.std.proofs.Math.Option.{Option, none, some}
+use Rattle.config.specs.declared.refusal.Refusal.{Refusal}
 use Rattle.config.specs.Limits.{log_size}
 use Rattle.metrics.specs.Totals.{totals}
 use Rattle.config.specs.declared.Config.{Config}
@@ -11,8 +11,6 @@ use Rattle.rules.specs.Run.{Given, run}
 use Rattle.rules.specs.Entries.{summary_of, logs_with, record_numbers, given_for}
 use Rattle.archive.specs.Bytes.{numbers_bytes, same_bytes}
 use Rattle.archive.specs.Layout.{section_in}
-use Rattle.archive_check.specs.declared.Checked.{Checked}
-use Rattle.archive_check.specs.declared.Checked.TheVariants.{Yes, No}
 use Rattle.archive_check.specs.Check.{stored_in}
 
 -- the sections of a run behind the first, with room for so many snapshots
@@ -37,9 +35,9 @@ gives_again g file =
     && same_bytes (section_in file 4) (logs_of g)
 
 -- so for the network and the configuration of the first section; no where a run refuses them
-abbrev pub again_unless : Option ℕ → Given → List ℕ → Checked
-again_unless none g file = cond (gives_again g file) Yes No
-again_unless (some k) g file = No
+abbrev pub again_unless : Option Refusal → Given → List ℕ → Bool
+again_unless None g file = gives_again g file
+again_unless (Some r) g file = false
 
-unfoldable pub again_for : RowsOrTopology → Config → List ℕ → Checked
+unfoldable pub again_for : RowsOrTopology → Config → List ℕ → Bool
 again_for q c file = again_unless (refusal_for q c) (given_for q c) file

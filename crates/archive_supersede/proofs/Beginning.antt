@@ -2,6 +2,8 @@
 use Prim.Native.Nat.{ℕ, ◌≤◌, ◌<◌}
 use mathlib.Core.Path.{◌≡◌, refl, sym, ap, subst, subst⁻¹, ◌∙◌}
 use mathlib.Core.Bool.{true, false}
+use Rattle.std.specs.Prelude.{Result, Ok}
+use Rattle.config.specs.declared.refusal.Refusal.{Refusal}
 use mathlib.Core.List.{List, []}
 use mathlib.Core.Logic.{⊎_elim}
 use native.Mathlib.Omega.{arith}
@@ -25,7 +27,6 @@ use Rattle.archive.proofs.Sections.{file_section}
 use Rattle.archive_writer.specs.Filed.{network_in}
 use Rattle.archive_writer.proofs.Made.{made_run}
 use Rattle.archive_writer.proofs.Laws.{sections_fit}
-use Rattle.archive_check.specs.declared.Checked.TheVariants.{Yes}
 use Rattle.archive_check.specs.Check.{asked_in, stored_in, check_of}
 use Rattle.archive_check.proofs.Passing.{kept_yes, passed_is_filed}
 use Rattle.archive_supersede.specs.declared.Superseding.{Superseding}
@@ -39,7 +40,7 @@ abbrev records_of : Inputs → List ℕ
 records_of x = numbers_bytes (record_numbers (run (given_for (network_in x) x.config)).running.shared.records)
 
 -- a file that passes the check has those of its inputs' run
-passed_records : (file : List ℕ) → check_of file ≡ Yes → records_in file ≡ records_of (asked_in file)
+passed_records : (file : List ℕ) → check_of file ≡ Ok true → records_in file ≡ records_of (asked_in file)
 passed_records file e =
     let p = passed_is_filed file e in
     ap records_in (p.bytes ∙ made_run (asked_in file) p.accepted (stored_in file))
@@ -81,7 +82,7 @@ module _ (file other : List ℕ) (agree : other_fields file ≡ other_fields oth
       )
 
   -- the one with the larger limit has the records of the other, and then perhaps more
-  records_extend : check_of file ≡ Yes → check_of other ≡ Yes → limit_in file ≤ limit_in other → Continues (records_in file) (records_in other)
+  records_extend : check_of file ≡ Ok true → check_of other ≡ Ok true → limit_in file ≤ limit_in other → Continues (records_in file) (records_in other)
   records_extend e f h =
       let x : Inputs = asked_in file in
       let on = larger_limit_for (network_in x) x.config (limit_in other) h in
@@ -92,7 +93,7 @@ pub records_begin : RecordsBegin
 unfolding superseding_part
 records_begin first second e f = ⊎_elim agreeing differing (two (same_bytes (other_fields first.now) (other_fields second.now)))
   where
-    Begins : Superseding → Type 0
+    Begins : Result Superseding Refusal → Type 0
     Begins w = Continues (other_records w first.now second.now) (part_as w first second).bytes
 
     differing : same_bytes (other_fields first.now) (other_fields second.now) ≡ false → Begins (which_supersedes first.now second.now)

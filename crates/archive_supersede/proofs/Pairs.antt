@@ -10,11 +10,13 @@ use lib.ListN.{length}
 use borrow.Author.Tests.{lt-ltb, le-ltb, ltb-true, ltb-false}
 use Rattle.network.proofs.Sets.{two}
 use Rattle.archive.specs.Bytes.{same_bytes}
-use Rattle.archive.specs.Layout.{records_section, layout, broken_layout}
-use Rattle.archive.proofs.Orders.{keeps, end_inside}
+use Rattle.std.proofs.Common.{Result, Ok, Err}
+use Rattle.config.specs.declared.refusal.Refusal.{Refusal}
+use Rattle.archive.specs.Layout.{records_section, layout, layout_of}
+use Rattle.archive.proofs.Orders.{keeps, kept_ok, end_inside}
 use Rattle.archive_supersede.specs.declared.Superseding.{Superseding}
-use Rattle.archive_supersede.specs.declared.Superseding.TheVariants.{First, Second, Refused}
-use Rattle.archive_supersede.specs.Supersede.{limit_in, other_fields, fields_differ, records_place, which_supersedes}
+use Rattle.archive_supersede.specs.declared.Superseding.TheVariants.{First, Second}
+use Rattle.archive_supersede.specs.Supersede.{limit_in, other_fields, records_place, which_supersedes}
 
 -- the records of a file that keeps the layout lie within it
 records_inside : (file : List ℕ) → layout file ≡ true → (records_place file).offset + (records_place file).length ≤ length file
@@ -26,34 +28,39 @@ pub record Paired (first second : List ℕ) : Type 0 where
   pub second_kept : layout second ≡ true
   pub agree : same_bytes (other_fields first) (other_fields second) ≡ true
 
+-- from what the code has asked
+pub paired : {first second : List ℕ} {u v : Unit {0}} → Ok u ≡ layout_of first → Ok v ≡ layout_of second →
+    same_bytes (other_fields first) (other_fields second) ≡ true → Paired first second
+paired {first} {second} e f agree = record { first_kept = kept_ok first e; second_kept = kept_ok second f; agree = agree }
+
 module _ (first second : List ℕ) where
-  pub first_broken : layout first ≡ false → Refused broken_layout ≡ which_supersedes first second
+  pub first_broken : layout first ≡ false → Err Refusal.BrokenLayout ≡ which_supersedes first second
   unfolding which_supersedes
   first_broken e = rw e
 
-  pub second_broken : layout first ≡ true → layout second ≡ false → Refused broken_layout ≡ which_supersedes first second
+  pub second_broken : layout first ≡ true → layout second ≡ false → Err Refusal.BrokenLayout ≡ which_supersedes first second
   unfolding which_supersedes
   second_broken e f = rw (e, f)
 
   pub fields_differ_lem : layout first ≡ true → layout second ≡ true → same_bytes (other_fields first) (other_fields second) ≡ false
-      → Refused fields_differ ≡ which_supersedes first second
+      → Err Refusal.FieldsDiffer ≡ which_supersedes first second
   unfolding which_supersedes
   fields_differ_lem e f d = rw (e, f, d)
 
   module _ (p : Paired first second) where
-    pub second_supersedes : limit_in first < limit_in second → Second (records_place second) ≡ which_supersedes first second
+    pub second_supersedes : limit_in first < limit_in second → Ok (Second (records_place second)) ≡ which_supersedes first second
     unfolding which_supersedes
     second_supersedes h = rw (p.first_kept, p.second_kept, p.agree, lt-ltb (limit_in first) (limit_in second) h)
 
-    pub first_supersedes : limit_in second ≤ limit_in first → First (records_place first) ≡ which_supersedes first second
+    pub first_supersedes : limit_in second ≤ limit_in first → Ok (First (records_place first)) ≡ which_supersedes first second
     unfolding which_supersedes
     first_supersedes h = rw (p.first_kept, p.second_kept, p.agree, le-ltb (limit_in first) (limit_in second) h)
 
   -- the place lies within its file
-  abbrev pub Inside : Superseding → Type 0
-  Inside (First p) = p.offset + p.length ≤ length first
-  Inside (Second p) = p.offset + p.length ≤ length second
-  Inside (Refused k) = Unit {0}
+  abbrev pub Inside : Result Superseding Refusal → Type 0
+  Inside (Ok (First p)) = p.offset + p.length ≤ length first
+  Inside (Ok (Second p)) = p.offset + p.length ≤ length second
+  Inside (Err r) = Unit {0}
 
   pub place_inside : Inside (which_supersedes first second)
   place_inside =

@@ -8,8 +8,9 @@ ghost use Rattle.archive.specs.Layout.{layout};
 ghost use Rattle.archive_supersede.specs.Supersede.{limit_in, other_fields, records_place, which_supersedes, returned, part_of, superseding_part};
 
 use archive::bytes::{NUMBER_SIZE, are_bytes, number_in};
-use archive::layout::{BROKEN_LAYOUT, INPUT_COUNT, RECORDS, keeps_layout, length_in, offset_in};
+use archive::layout::{INPUT_COUNT, RECORDS, layout_of, length_in, offset_in};
 use archive::reader::inputs_of;
+use config::refusal::Refusal;
 
 // A part of a file: where it begins, and how many bytes it has.
 #[derive(Clone, Copy)]
@@ -18,16 +19,12 @@ pub struct Place {
     pub length: usize,
 }
 
-// Which file supersedes, with the place of its records, or the refusal with its number.
+// Which file supersedes, with the place of its records.
 #[derive(Clone, Copy)]
 pub enum Superseding {
     First(Place),
     Second(Place),
-    Refused(u64),
 }
-
-// Another field than the slot limit differs in a byte.
-pub const FIELDS_DIFFER: u64 = 19;
 
 // The slot limit is the last of the input fields. It stands behind the others.
 const LIMIT_AT: usize = NUMBER_SIZE * (INPUT_COUNT - 1);
@@ -45,7 +42,7 @@ fn same_other_fields(first: &[u8], second: &[u8]) -> bool
     ensures { result ≡ same_bytes (other_fields first.now) (other_fields second.now) }
 {
     let inputs = inputs_of(second);
-    are_bytes(inputs_of(first), 0, &inputs[0..LIMIT_AT])
+    are_bytes(inputs_of(first), 0, &inputs[..LIMIT_AT])
 }
 
 fn records_place(file: &[u8]) -> Place
@@ -59,22 +56,18 @@ fn records_place(file: &[u8]) -> Place
 }
 
 // Which of two files supersedes the other.
-pub fn which_supersedes(first: &[u8], second: &[u8]) -> Superseding
+pub fn which_supersedes(first: &[u8], second: &[u8]) -> Result<Superseding, Refusal>
     ensures { result ≡ which_supersedes first.now second.now }
 {
-    if !keeps_layout(first) {
-        return Superseding::Refused(BROKEN_LAYOUT);
-    }
-    if !keeps_layout(second) {
-        return Superseding::Refused(BROKEN_LAYOUT);
-    }
+    layout_of(first)?;
+    layout_of(second)?;
     if !same_other_fields(first, second) {
-        return Superseding::Refused(FIELDS_DIFFER);
+        return Err(Refusal::FieldsDiffer);
     }
     if limit_in(first) < limit_in(second) {
-        Superseding::Second(records_place(second))
+        Ok(Superseding::Second(records_place(second)))
     } else {
-        Superseding::First(records_place(first))
+        Ok(Superseding::First(records_place(first)))
     }
 }
 
@@ -93,8 +86,8 @@ pub fn supersede<'a>(first: &'a [u8], second: &'a [u8]) -> &'a [u8]
     ensures { returned result ≡ superseding_part first.entry second.entry }
 {
     match which_supersedes(first, second) {
-        Superseding::First(place) => part_at(first, place),
-        Superseding::Second(place) => part_at(second, place),
-        Superseding::Refused(_) => &first[0..0],
+        Ok(Superseding::First(place)) => part_at(first, place),
+        Ok(Superseding::Second(place)) => part_at(second, place),
+        Err(_) => &first[0..0],
     }
 }

@@ -3,7 +3,7 @@ use Prim.Native.Nat.{ℕ, zero, suc, ◌+◌, ◌-◌, ◌*◌, ◌/◌, ◌≤�
 use mathlib.Core.Path.{◌≡◌, sym, ap, subst⁻¹, ◌∙◌}
 use mathlib.Core.Bool.{true}
 use mathlib.Core.List.{List, [], ◌∷◌, flatten}
-use mathlib.Core.Option.{none}
+use Rattle.std.specs.Prelude.{None}
 use native.Mathlib.Nat.{div-lt_iff_lt-mul, mul-le-mul_right, zero-min}
 use native.Mathlib.Omega.{arith}
 use lib.ListN.{length, take, replicate}
@@ -88,7 +88,7 @@ take_min {A} (suc n) (a ∷ l) =
     let more : min (suc n) (suc (length l)) ≡ suc (min n (length l)) = omega arith in
     rw more (ap (λ (r : List A). a ∷ r) (take_min n l))
 
-module _ (x : Inputs) (passes : refusal_for (network_in x) x.config ≡ none) where
+module _ (x : Inputs) (passes : refusal_for (network_in x) x.config ≡ None) where
   abbrev asked : Given
   asked = given_for (network_in x) x.config
 

@@ -2,7 +2,7 @@
 use Prim.Native.Nat.{ℕ, ◌+◌, ◌*◌, ◌/◌, ◌≤◌, min}
 use mathlib.Core.Path.{◌≡◌, ap, ap₂, ◌∙◌}
 use mathlib.Core.List.{List, [], flatten}
-use mathlib.Core.Option.{none}
+use Rattle.std.specs.Prelude.{None}
 use native.Mathlib.Nat.{le_refl}
 use native.Mathlib.Omega.{arith}
 use lib.ListN.{length, take, drop, replicate, length-replicate}
@@ -69,7 +69,7 @@ roomy = record { for_logs = le_refl log_size; for_records = le_refl records_size
 room_is : (room : ℕ) → snapshot_room (replicate (snapshot_size * room) 0) ≡ room
 room_is room = omega (arith, length-replicate {A = ℕ} (snapshot_size * room) 0)
 
-module _ (x : Inputs) (passes : refusal_for (network_in x) x.config ≡ none) where
+module _ (x : Inputs) (passes : refusal_for (network_in x) x.config ≡ None) where
   abbrev asked : Given
   asked = given_for (network_in x) x.config
 

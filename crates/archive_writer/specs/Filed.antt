@@ -1,11 +1,10 @@
 -- The file of a run of a named topology (rules 16.3 and 16.4).
-use Rattle.std.specs.Prelude.{ℕ, ◌*◌, min, List, [], take, replicate}
+use Rattle.std.specs.Prelude.{ℕ, ◌*◌, min, List, [], take, replicate, Result, Ok, Err}
+use Rattle.config.specs.declared.refusal.Refusal.{Refusal}
 use Rattle.config.specs.Limits.{record_size, records_size, snapshot_size, log_size}
 use Rattle.metrics.specs.declared.summary.Summary.{Summary}
 use Rattle.metrics.specs.Totals.{totals}
 use Rattle.phy.specs.Snapshots.{snapshot_room}
-use Rattle.rules.specs.declared.answer.Answer.{Answer}
-use Rattle.rules.specs.declared.answer.Answer.TheVariants.{Ran, Refused}
 use Rattle.rules.specs.Networks.{RowsOrTopology, of_topology}
 use Rattle.rules.specs.Entries.{Outcome, outcome_for}
 use Rattle.archive.specs.declared.inputs.Inputs.{Inputs}
@@ -32,9 +31,9 @@ sections_of x s o =
     (numbers_bytes (used_snapshots s o.snapshots)) o.logs
 
 -- the file of an outcome; a run that was refused has none
-abbrev pub filed_as : Inputs → Outcome → Answer → List ℕ
-filed_as x o (Ran s) = file_of (sections_of x s o)
-filed_as x o (Refused k) = []
+abbrev pub filed_as : Inputs → Outcome → Result Summary Refusal → List ℕ
+filed_as x o (Ok s) = file_of (sections_of x s o)
+filed_as x o (Err r) = []
 
 unfoldable pub filed : Inputs → Outcome → List ℕ
 filed x o = filed_as x o o.answer

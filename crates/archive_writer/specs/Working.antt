@@ -7,10 +7,8 @@ use Rattle.config.specs.Limits.{max_terms, max_round_slots, most_rounds, record_
 use Rattle.metrics.specs.declared.summary.Summary.{Summary}
 use Rattle.metrics.specs.Totals.{totals}
 use Rattle.phy.specs.Snapshots.{snapshot_room}
-use Rattle.rules.specs.declared.networks.Extent.TheVariants.{Of}
 use Rattle.rules.specs.Accepted.{Accepted}
 use Rattle.rules.specs.Answers.{ran}
-use Rattle.rules.specs.Networks.{network, network_for}
 use Rattle.rules.specs.Run.{Given, Ended, run}
 use Rattle.rules.specs.Entries.{summary_of, logs_with, record_numbers, ran_with}
 use Rattle.rounds.specs.declared.run.Plan.{Plan}
@@ -21,7 +19,6 @@ use Rattle.archive.specs.Inputs.{input_numbers}
 use Rattle.archive.specs.Layout.{marker, offset_size, first_offset, inputs_size, totals_size, record_bytes, snapshot_bytes}
 use Rattle.archive.specs.File.{file_of}
 use Rattle.archive.specs.Laws.{five}
-use Rattle.archive_writer.specs.Filed.{network_in}
 
 -- ---- the file of a run
 
@@ -96,24 +93,20 @@ pub record Laid (bytes file : List ℕ) (size : ℕ) (file' : List ℕ) : Type 0
 
 -- ---- the run
 
--- the network that the inputs name has this graph, with n nodes and this diameter
-abbrev pub Named : Inputs → List ℕ → ℕ → ℕ → Type 0
-Named x graph n d = (lent : List ℕ) × (network (Of n d) graph ≡ network_for (network_in x) lent)
-
 -- an accepted run whose counts are bounded
-pub record CanCount (graph : List ℕ) (p : Plan) : Type 0 where
-  pub accepted : Accepted (planned graph p)
-  pub low : Low (summary_in (planned graph p))
+pub record CanCount (p : Plan) : Type 0 where
+  pub accepted : Accepted (planned p)
+  pub low : Low (summary_in (planned p))
 
 -- buffers and lent bytes that are long enough for it
-pub record CanFile (graph : List ℕ) (p : Plan) (x : Inputs) (logs records snapshots file : List ℕ) : Type 0 where
-  pub counts : CanCount graph p
+pub record CanFile (p : Plan) (x : Inputs) (logs records snapshots file : List ℕ) : Type 0 where
+  pub counts : CanCount p
   pub rate : T (not (is_nan x.config.loss_rate))
   pub logs_long : log_size ≤ length logs
   pub records_long : records_size ≤ length records
-  pub file_long : length_with (summary_in (planned graph p)) (snapshot_room snapshots) ≤ length file
+  pub file_long : length_with (summary_in (planned p)) (snapshot_room snapshots) ≤ length file
 
 -- the run was filed: its buffers are as its entry leaves them, and its file stands at the start of the lent bytes
-pub record Files (graph : List ℕ) (p : Plan) (x : Inputs) (logs records snapshots file : List ℕ) (size : ℕ) (logs' records' snapshots' file' : List ℕ) : Type 0 where
-  pub buffers : ran (summary_in (planned graph p)) logs' records' snapshots' ≡ ran_with (planned graph p) logs records snapshots
-  pub laid : Laid (file_of_run x (planned graph p) (snapshot_room snapshots)) file size file'
+pub record Files (p : Plan) (x : Inputs) (logs records snapshots file : List ℕ) (size : ℕ) (logs' records' snapshots' file' : List ℕ) : Type 0 where
+  pub buffers : ran (summary_in (planned p)) logs' records' snapshots' ≡ ran_with (planned p) logs records snapshots
+  pub laid : Laid (file_of_run x (planned p) (snapshot_room snapshots)) file size file'

@@ -8,93 +8,50 @@ ghost use Rattle.std.specs.Prelude.{◌≡◌, ◌*◌, ◌^◌, ◌<◌, leb};
 ghost use Rattle.archive.specs.Layout.{snapshot_bytes};
 ghost use Rattle.rounds.specs.Going.{planned};
 ghost use Rattle.archive_writer.specs.Filing.{filing, filing_for};
-ghost use Rattle.archive_writer.specs.Working.{summary_in, length_with, Named, CanCount};
+ghost use Rattle.archive_writer.specs.Working.{summary_in, length_with, CanCount};
 
 use archive::inputs::Inputs;
-use config::limits::{MAX_NODES, MAX_TERMS, SNAPSHOT_SIZE};
-use put::{length_of, smaller};
+use config::limits::{MAX_TERMS, SNAPSHOT_SIZE};
+use config::refusal::Refusal;
+use put::length_of;
 use rounds::run::Plan;
-use rules::networks::{Extent, network_of_topology};
-use rules::questions::{Refusal, run_refusal};
+use rules::networks::{Asked, ask_network};
+use rules::questions::ask_run;
 use run::{count_run, file_run};
-
-// What the writer answers: how many bytes the file has, or the refusal with its number.
-#[derive(Clone, Copy)]
-pub enum Written {
-    Filed(usize),
-    Refused(u64),
-}
-
-// The lent bytes are too few for the file.
-pub const SHORT_FILE: u64 = 18;
 
 // Whether the run's file fits into so many bytes. Where they suffice for whatever the snapshots' buffer can bring, no run is
 // needed to tell.
-fn fits(graph: &[u64; MAX_NODES], plan: Plan, room: usize, size: usize) -> bool
-    requires { CanCount graph.now plan × (snapshot_bytes * room < 2 ^ 63) }
-    ensures { result ≡ leb (length_with (summary_in (planned graph.now plan)) room) size }
+fn fits(plan: &Plan, room: usize, size: usize) -> bool
+    requires { CanCount plan.now × (snapshot_bytes * room < 2 ^ 63) }
+    ensures { result ≡ leb (length_with (summary_in (planned plan.now)) room) size }
 {
     if length_of(MAX_TERMS, room) <= size {
         return true;
     }
-    let counted = count_run(graph, plan);
-    let stored = smaller(room, counted.snapshots as usize);
+    let counted = count_run(plan);
+    let stored = room.min(counted.snapshots as usize);
     length_of(counted.records as usize, stored) <= size
 }
 
-// The questions of the configuration, of the buffers and of the lent bytes, then the run.
-fn file_graph(
-    graph: &[u64; MAX_NODES],
-    nodes: usize,
-    diameter: usize,
-    inputs: Inputs,
-    logs: &mut [u8],
-    records: &mut [u64],
-    snapshots: &mut [u64],
-    file: &mut [u8],
-) -> Written
-    requires { Named inputs graph.now nodes diameter }
-    ensures { filing result logs.new records.new snapshots.new file.new
-        ≡ filing_for inputs logs.old records.old snapshots.old file.old }
-{
-    let config = inputs.config;
-    let refusal = run_refusal(config, logs.len(), records.len());
-    match refusal {
-        Refusal::Number(k) => Written::Refused(k),
-        Refusal::None => {
-            let plan = Plan {
-                nodes,
-                diameter,
-                config,
-            };
-            let room = snapshots.len() / SNAPSHOT_SIZE;
-            if !fits(graph, plan, room, file.len()) {
-                return Written::Refused(SHORT_FILE);
-            }
-            Written::Filed(file_run(graph, plan, inputs, logs, records, snapshots, file))
-        }
-    }
-}
-
-// Files the run of the inputs, whose buffers are then as `run_topology` leaves them. A refusal leaves every buffer as it was.
+// Files the run of the inputs, whose buffers are then as `sim::entries::run` leaves them, and says how many bytes the file has. A
+// refusal leaves every buffer as it was. The buffers stay apart here and below, as for a run.
 pub fn file_topology(
     inputs: Inputs,
     logs: &mut [u8],
     records: &mut [u64],
     snapshots: &mut [u64],
     file: &mut [u8],
-) -> Written
+) -> Result<usize, Refusal>
     ensures { filing result logs.new records.new snapshots.new file.new
         ≡ filing_for inputs logs.old records.old snapshots.old file.old }
 {
-    let mut graph = [0u64; MAX_NODES];
-    let extent = network_of_topology(inputs.topology, inputs.first, inputs.second, &mut graph);
-    match extent {
-        Extent::Refused(k) => Written::Refused(k),
-        Extent::Of(nodes, diameter) => {
-            file_graph(
-                &graph, nodes, diameter, inputs, logs, records, snapshots, file,
-            )
-        }
+    let config = inputs.config;
+    let network = ask_network(Asked::Topology(inputs.topology, inputs.first, inputs.second))?;
+    ask_run(config, logs.len(), records.len())?;
+    let plan = Plan { network, config };
+    let room = snapshots.len() / SNAPSHOT_SIZE;
+    if !fits(&plan, room, file.len()) {
+        return Err(Refusal::ShortFile);
     }
+    Ok(file_run(&plan, inputs, logs, records, snapshots, file))
 }

@@ -1,5 +1,5 @@
 // The bytes of an archive file.
-ghost use Rattle.std.specs.Prelude.{◌≡◌, not, ◌+◌, ◌*◌, ◌^◌, ◌≤◌, ◌<◌, min, T, length};
+ghost use Rattle.std.specs.Prelude.{◌≡◌, not, ◌+◌, ◌*◌, ◌^◌, ◌≤◌, ◌<◌, T, length};
 ghost use Rattle.std.specs.Float.Ieee.{is_nan};
 ghost use Rattle.std.proofs.lemmas.List.Edits.{sets};
 ghost use Rattle.config.specs.Limits.{max_terms};
@@ -20,16 +20,7 @@ use archive::layout::{
 use config::limits::{LOG_SIZE, RECORD_SIZE, SNAPSHOT_SIZE};
 use metrics::summary::Summary;
 use metrics::totals::{TOTAL_COUNT, totals_of};
-use text::overlay::put_word;
-
-pub fn smaller(a: usize, b: usize) -> usize
-    ensures { result ≡ min a b }
-{
-    if a < b {
-        return a;
-    }
-    b
-}
+use text::overlay::Overlay;
 
 // The length of a file of so many records and snapshots.
 pub fn length_of(records: usize, snapshots: usize) -> usize
@@ -88,7 +79,8 @@ fn put_totals(summary: Summary, file: &mut [u8])
     put_numbers(&numbers, TOTAL_COUNT, file, FIRST_OFFSET + INPUTS_SIZE);
 }
 
-// The file of a run, from its summary, its buffers of records and snapshots, and its logs. Its length.
+// The file of a run, from its summary, its buffers of records and snapshots, and its logs. Its length. The buffers stay
+// apart, as for a run.
 pub fn put_file(
     inputs: Inputs,
     summary: Summary,
@@ -102,7 +94,7 @@ pub fn put_file(
 {
     let recorded = RECORD_SIZE * (summary.records as usize);
     let room = snapshots.len() / SNAPSHOT_SIZE;
-    let stored = SNAPSHOT_SIZE * smaller(room, summary.snapshots as usize);
+    let stored = SNAPSHOT_SIZE * room.min(summary.snapshots as usize);
     let at_records = FIRST_OFFSET + INPUTS_SIZE + TOTALS_SIZE;
     let at_snapshots = at_records + NUMBER_SIZE * recorded;
     let at_logs = at_snapshots + NUMBER_SIZE * stored;
@@ -111,5 +103,10 @@ pub fn put_file(
     put_totals(summary, file);
     put_numbers(records, recorded, file, at_records);
     put_numbers(snapshots, stored, file, at_snapshots);
-    put_word(logs, file, at_logs)
+    let mut over = Overlay {
+        out: file,
+        at: at_logs,
+    };
+    over.put_word(logs);
+    over.at
 }

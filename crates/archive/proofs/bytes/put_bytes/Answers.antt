@@ -1,19 +1,24 @@
-use Rattle.std.proofs.Common.{◌≡◌, ◌-◌, refl, ◌∙◌, arith, add-zero, length-set}
+use Rattle.std.proofs.Common.{◌≡◌, ◌+◌, ◌-◌, take, drop, ◌∙◌, arith}
 use native.Mathlib.Nat.{sub-zero}
 use Rattle.archive.specs.Bytes.{bytes_of}
-use Rattle.archive.proofs.ByteLaws.{bytes_more}
+use Rattle.archive.proofs.ByteLaws.{bytes_more, length_bytes, sets_all, sets_part}
 use Rattle.archive.proofs.bytes.put_bytes.Goals as goal
 
-pub loop-i-init : goal.loop-i-init
-loop-i-init c = (omega arith, refl, rw (sub-zero, add-zero))
+pub loop-place-init : goal.loop-place-init
+loop-place-init c = rw sub-zero
 
-pub loop-i-preserved : goal.loop-i-preserved
-loop-i-preserved c =
-    let l = c.loop-i in
-    (omega arith, simp length-set l.invariant.1, bytes_more l.out c.args.at c.args.size l.i l.rest (omega arith) ∙ l.invariant.2)
+pub loop-place-preserved : goal.loop-place-preserved
+loop-place-preserved c =
+    let l = c.loop-place in
+    bytes_more l.place-items c.args.size l.place-index l.rest (omega arith) ∙ l.invariant
 
 pub returns : goal.returns
 unfolding bytes_of
 returns c =
-    let none : c.args.size - c.loop-i.i ≡ 0 = omega arith in
-    rw none at c.loop-i.invariant.2
+    let a = c.args in
+    let l = c.loop-place in
+    let part = take (a.at + a.size - a.at) (drop a.at a.out.now) in
+    let none : a.size - l.place-index ≡ 0 = omega arith in
+    let left = rw none at l.invariant in
+    let written = left ∙ sets_all part (bytes_of a.size a.number) (omega (arith, length_bytes a.size a.number)) in
+    rw written (sets_part a.out.now (bytes_of a.size a.number) a.at (a.at + a.size) (omega (arith, length_bytes a.size a.number)) (omega arith))

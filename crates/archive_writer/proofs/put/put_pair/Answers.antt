@@ -1,0 +1,15 @@
+use Rattle.std.proofs.Common.{ℕ, ◌+◌, List, sym, ◌∙◌}
+use mathlib.Core.Path.{ap₂}
+use Rattle.std.proofs.lemmas.List.Edits.{sets}
+use Rattle.phy.proofs.Snapshots.{sets_append}
+use Rattle.archive.specs.Bytes.{bytes_of}
+use Rattle.archive.specs.Layout.{offset_size, pair_at}
+use Rattle.archive.proofs.ByteLaws.{length_bytes}
+use Rattle.archive_writer.proofs.put.put_pair.Goals as goal
+
+pub returns : goal.returns
+returns c =
+    let a = c.args in
+    c.put_bytes-2.ensures
+    ∙ ap₂ (λ (l : List ℕ) (n : ℕ). sets l (pair_at a.i + n) (bytes_of offset_size a.size)) c.put_bytes.ensures (sym (length_bytes offset_size a.offset))
+    ∙ sym (sets_append a.file.now (pair_at a.i) (bytes_of offset_size a.offset) (bytes_of offset_size a.size))
