@@ -15,7 +15,10 @@ use Rattle.rules.specs.Entries.{given_for}
 use Rattle.wire.specs.Grammar.{has_text, packet_text, text_most}
 use Rattle.wire.specs.Writing.{writing}
 use Rattle.wire.proofs.Sizes.{no_longer_text}
-use Rattle.preview.specs.declared.Preview.{Preview}
+use Rattle.std.specs.Prelude.{Result, Ok, Err}
+use Rattle.config.specs.Refusals.{number_of}
+use Rattle.config.specs.declared.refusal.Refusal.{Refusal}
+use Rattle.rules.specs.declared.answer.SeenRound.{SeenRound}
 use Rattle.preview.specs.Preview.{preview_for}
 use Rattle.preview.proofs.Texts.{seen_have_texts}
 use Rattle.marshal.specs.Packets.{packet_size, packet_numbers}
@@ -23,8 +26,12 @@ use Rattle.marshal.specs.Previews.{preview_result}
 use Rattle.marshal.specs.Texts.{written_from}
 use Rattle.marshal.proofs.Back.{packet_length, packet_formed, packet_back}
 use Rattle.capi.specs.Capi.{short, if_room, returned_preview, returned_text, SeenIsWritten}
-use Rattle.capi.proofs.Returns.{room}
-use Rattle.capi.proofs.Numbers.{preview_numbered}
+use Rattle.capi.proofs.Numbers.{refusal_numbered}
+
+-- where the packet's slice and that for a number have their places
+room : (packet number : List ℕ) (done refused : ℕ × List ℕ × List ℕ) → packet_size ≤ length packet → 1 ≤ length number → done ≡ if_room packet number done refused
+unfolding if_room
+room packet number done refused h l = rw (le-leb _ _ h, le-leb 1 (length number) l)
 
 -- a packet that has a text is written where there is room for any text
 written_from_lem : (p : Packet) (n : ℕ) (behind text written : List ℕ) → has_text n p ≡ true → text_most ≤ length text →
@@ -57,12 +64,12 @@ done packet part given refused r e = go (leb packet_size (length packet)) refl (
 pub seen_is_written : SeenIsWritten
 seen_is_written q c k packet part text written e long place = go (preview_for q c k) refl e
   where
-    go : (v : Preview) → preview_for q c k ≡ v → (returned_preview v packet part).0 ≡ 0 → (returned_text (returned_preview v packet part).1 (given_for q c).nodes text written).0 ≡ 0
-    go (Preview.Seen seen) is e =
-        let there = done packet part (preview_result (Preview.Seen seen) packet part) (short, packet, part) refl e in
+    go : (v : Result SeenRound Refusal) → preview_for q c k ≡ v → (returned_preview v packet part).0 ≡ 0 → (returned_text (returned_preview v packet part).1 (given_for q c).nodes text written).0 ≡ 0
+    go (Ok seen) is e =
+        let there = done packet part (preview_result (Ok seen) packet part) (short, packet, part) refl e in
         ap (λ r. (returned_text r.1 (given_for q c).nodes text written).0) there.1
         ∙ from_slice seen.packet (given_for q c).nodes packet text written there.0 (seen_have_texts q c k seen is) long place
-    go (Preview.Refused j) is e =
-        let there = done packet part (preview_result (Preview.Refused j) packet part) (short, packet, part) refl e in
-        let zero : j ≡ 0 = sym (ap (λ r. r.0) there.1) ∙ e in
-        absurd (omega (arith, zero, leb-true 1 j (and_both (leb 1 j) (leb j 99) (preview_numbered q c k j is)).0))
+    go (Err j) is e =
+        let there = done packet part (preview_result (Err j) packet part) (short, packet, part) refl e in
+        let zero : number_of j ≡ 0 = sym (ap (λ r. r.0) there.1) ∙ e in
+        absurd (omega (arith, zero, leb-true 1 (number_of j) (and_both (leb 1 (number_of j)) (leb (number_of j) 99) (refusal_numbered j)).0))

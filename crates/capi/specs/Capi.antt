@@ -1,63 +1,55 @@
 -- What each entry for C returns, and the final contents of the lent slices (rules 7.5 to 7.8, 9.4, 12.7 and 15.9). The result is 0 or the refusal's
 -- number; a refusal leaves every slice as it was. `short` is these entries' own and asked first: has the slice of a summary, of a packet
 -- or of a single result its places?
-use Rattle.std.specs.Prelude.{ℕ, ◌≤◌, ◌≡◌, cond, ◌&&◌, List, [], ◌∷◌, leb, Float, length}
-use Rattle.std.proofs.lemmas.List.Edits.{sets}
+use Rattle.std.specs.Prelude.{ℕ, ◌≤◌, ◌≡◌, cond, ◌&&◌, List, leb, Float, length, Option, Result}
 use Rattle.network.specs.Topology.{built_rows}
 use Rattle.network.specs.Distance.{measured}
-use Rattle.network.specs.declared.topology.Built.{Built}
-use Rattle.network.specs.declared.distance.Measured.{Measured}
+use Rattle.config.specs.declared.refusal.Refusal.{Refusal}
 use Rattle.metrics.specs.declared.summary.Summary.{Summary}
 use Rattle.config.specs.declared.Config.{Config}
-use Rattle.metrics.specs.declared.ratios.Ratio.{Ratio}
 use Rattle.rules.specs.Networks.{RowsOrTopology}
 use Rattle.rules.specs.Entries.{Outcome, given_for, run_of_rows, run_of_topology}
 use Rattle.metrics.specs.Ratio.{ratio_of}
-use Rattle.preview.specs.declared.Preview.{Preview}
+use Rattle.rules.specs.declared.answer.SeenRound.{SeenRound}
 use Rattle.preview.specs.Preview.{preview_for}
-use Rattle.sweep.specs.declared.Sweep.{Sweep}
 use Rattle.sweep.specs.Sweep.{sweep_for}
 use Rattle.marshal.specs.Convert.{summary_size, ratio_result, summary_at, result_of, with_summary}
 use Rattle.marshal.specs.Packets.{packet_size}
 use Rattle.marshal.specs.Previews.{preview_result}
-use Rattle.marshal.specs.Sweeps.{sweep_result}
+use Rattle.marshal.specs.Numbers.{number_result}
 use Rattle.marshal.specs.Texts.{reading_result, written_from}
 use Rattle.wire.specs.Grammar.{text_most}
-use Rattle.wire_reader.specs.declared.Reading.{Reading}
+use Rattle.phy.specs.declared.packet.Packet.{Packet}
 
 -- the slice of a summary, of a packet or of a single result is too short
 abbrev pub short : ℕ
 short = 100
 
--- rows of a topology: the result, the rows' slice and that of the number of nodes
-abbrev pub built_result : Built × List ℕ → List ℕ → ℕ × List ℕ × List ℕ
-built_result (Built.Nodes n, out) nodes = (0, out, sets nodes 0 (n ∷ []))
-built_result (Built.Refused k, out) nodes = (k, out, nodes)
+-- of a call that fills a slice and has a number for an answer: the result, the slice, and that of the number
+abbrev pub filled_result : Result ℕ Refusal × List ℕ → List ℕ → ℕ × List ℕ × List ℕ
+filled_result (answer, out) number = let r = number_result answer number in (r.0, out, r.1)
 
+-- rows of a topology
 unfoldable pub returned_rows : ℕ → ℕ → ℕ → List ℕ → List ℕ → ℕ × List ℕ × List ℕ
 returned_rows topology first second out nodes =
-    cond (leb 1 (length nodes)) (built_result (built_rows topology first second out) nodes) (short, out, nodes)
+    cond (leb 1 (length nodes)) (filled_result (built_rows topology first second out) nodes) (short, out, nodes)
 
--- diameter of rows: the result, and the slice of its number of links
-abbrev pub measured_result : Measured → List ℕ → ℕ × List ℕ
-measured_result (Measured.Links d) links = (0, sets links 0 (d ∷ []))
-measured_result (Measured.Refused k) links = (k, links)
-
+-- diameter of rows
 unfoldable pub returned_diameter : List ℕ → ℕ → List ℕ → ℕ × List ℕ
-returned_diameter rows n links = cond (leb 1 (length links)) (measured_result (measured rows n) links) (short, links)
+returned_diameter rows n links = cond (leb 1 (length links)) (number_result (measured rows n) links) (short, links)
 
 -- ratio
 unfoldable pub returned_ratio : ℕ → ℕ → List Float → ℕ × List Float
 returned_ratio part whole out = cond (leb 1 (length out)) (ratio_result (ratio_of part whole) out) (short, out)
 
 -- the two ratios of a run: successes over attempts, and covered nodes over the nodes of all floods
-abbrev pub link_pdr : Summary → Ratio
+abbrev pub link_pdr : Summary → Result (Option Float) Refusal
 link_pdr s = ratio_of s.successes s.attempts
 
-abbrev pub flood_coverage : Summary → Ratio
+abbrev pub flood_coverage : Summary → Result (Option Float) Refusal
 flood_coverage s = ratio_of s.covered s.flood_nodes
 
-unfoldable pub returned_of : (Summary → Ratio) → List ℕ → List Float → ℕ × List Float
+unfoldable pub returned_of : (Summary → Result (Option Float) Refusal) → List ℕ → List Float → ℕ × List Float
 returned_of f summary out = cond (leb summary_size (length summary) && leb 1 (length out)) (ratio_result (f (summary_at summary)) out) (short, out)
 
 -- the result of a run, and what the slices hold afterwards
@@ -92,7 +84,7 @@ unfoldable pub if_room : List ℕ → List ℕ → ℕ × List ℕ × List ℕ �
 if_room packet number done refused = cond (leb packet_size (length packet) && leb 1 (length number)) done refused
 
 -- look ahead: the result, the packet's slice and that of the set
-abbrev pub returned_preview : Preview → List ℕ → List ℕ → ℕ × List ℕ × List ℕ
+abbrev pub returned_preview : Result SeenRound Refusal → List ℕ → List ℕ → ℕ × List ℕ × List ℕ
 returned_preview answer packet part = if_room packet part (preview_result answer packet part) (short, packet, part)
 
 -- a packet's text: the result, the text's slice and that of its length
@@ -100,19 +92,16 @@ abbrev pub returned_text : List ℕ → ℕ → List ℕ → List ℕ → ℕ ×
 returned_text packet n text written = if_room packet written (written_from packet n text written) (short, text, written)
 
 -- the packet of a text: the result, the packet's slice and that of its number of flags
-abbrev pub returned_packet : Reading → List ℕ → List ℕ → ℕ × List ℕ × List ℕ
+abbrev pub returned_packet : Result (Packet × ℕ) Refusal → List ℕ → List ℕ → ℕ × List ℕ × List ℕ
 returned_packet answer packet flags = if_room packet flags (reading_result answer packet flags) (short, packet, flags)
 
 -- a sweep's seeds are a list, and its configuration has none of its own
 abbrev pub no_seed : ℕ
 no_seed = 0
 
--- sweep: the result, the table and the slice of the sum of the rounds
-abbrev pub swept_result : Sweep × List ℕ → List ℕ → ℕ × List ℕ × List ℕ
-swept_result (answer, after) rounds = let r = sweep_result answer rounds in (r.0, after, r.1)
-
+-- sweep
 unfoldable pub returned_sweep : RowsOrTopology → Config → List ℕ → List ℕ → List ℕ → ℕ × List ℕ × List ℕ
-returned_sweep q c seeds table rounds = cond (leb 1 (length rounds)) (swept_result (sweep_for q c seeds table) rounds) (short, table, rounds)
+returned_sweep q c seeds table rounds = cond (leb 1 (length rounds)) (filled_result (sweep_for q c seeds table) rounds) (short, table, rounds)
 
 -- What a look ahead shows is written: where the one entry has returned 0, the other returns 0 for the slice that it has left, with as many flags as
 -- the run has nodes and room for any text.

@@ -1,12 +1,13 @@
 -- What the entries for archive files return, and the final contents of the lent slices (rules 16.8 and 17.6).
-use Rattle.std.specs.Prelude.{ℕ, cond, List, leb, length}
+use Rattle.std.specs.Prelude.{ℕ, cond, List, leb, length, Result}
 use Rattle.config.specs.declared.Config.{Config}
+use Rattle.config.specs.declared.refusal.Refusal.{Refusal}
 use Rattle.archive.specs.declared.inputs.Inputs.{Inputs}
-use Rattle.archive.specs.declared.layout.Layout.{Layout}
 use Rattle.archive.specs.Layout.{parts_size, parts_told}
 use Rattle.archive_writer.specs.Filing.{Filing, filing_for}
 use Rattle.archive_supersede.specs.Supersede.{which_supersedes}
-use Rattle.marshal.specs.Files.{filing_result, layout_result, place_size, superseding_result}
+use Rattle.marshal.specs.Numbers.{number_result}
+use Rattle.marshal.specs.Files.{layout_result, place_size, superseding_result}
 use Rattle.capi.specs.Capi.{short}
 
 -- the inputs of a call
@@ -27,14 +28,14 @@ returned_file k l r s f w = record { result = k; logs = l; records = r; snapshot
 
 abbrev pub returned_as : Filing → List ℕ → ReturnedFile
 returned_as f written =
-    let r = filing_result f.answer written in returned_file r.0 f.logs f.records f.snapshots f.file r.1
+    let r = number_result f.answer written in returned_file r.0 f.logs f.records f.snapshots f.file r.1
 
 unfoldable pub returned_filing : Inputs → List ℕ → List ℕ → List ℕ → List ℕ → List ℕ → ReturnedFile
 returned_filing x logs records snapshots file written =
     cond (leb 1 (length written)) (returned_as (filing_for x logs records snapshots file) written) (returned_file short logs records snapshots file written)
 
 -- the reader's result, and the slice of the sections' offsets and lengths
-abbrev pub told_result : Layout × List ℕ → ℕ × List ℕ
+abbrev pub told_result : Result (Unit {0}) Refusal × List ℕ → ℕ × List ℕ
 told_result (answer, parts) = (layout_result answer, parts)
 
 unfoldable pub returned_sections : List ℕ → List ℕ → ℕ × List ℕ

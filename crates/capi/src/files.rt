@@ -12,7 +12,8 @@ use archive_check::check_file;
 use archive_supersede::which_supersedes;
 use archive_writer::file_topology;
 use marshal::convert::config_from;
-use marshal::files::{check_result, layout_result, write_filing, write_superseding};
+use marshal::files::{check_result, layout_result, write_superseding};
+use marshal::numbers::write_count;
 
 // How many places the sections' offsets and lengths take.
 const PARTS_SIZE: usize = 10;
@@ -21,6 +22,7 @@ const PARTS_SIZE: usize = 10;
 const PLACE_SIZE: usize = 3;
 
 // Files the run of the topology with that number. The file's length into the first place of `written`.
+#[tactic(auto, unfolding(crate::specs::Files::returned_filing))]
 #[unsafe(no_mangle)]
 pub extern "C" fn ctsim_file_topology(
     topology: u64,
@@ -64,10 +66,11 @@ pub extern "C" fn ctsim_file_topology(
         config,
     };
     let answer = file_topology(inputs, logs, records, snapshots, file);
-    write_filing(answer, written)
+    write_count(answer, written)
 }
 
 // Offset and length of each section of a file, into the first ten places of `parts`.
+#[tactic(auto, unfolding(crate::specs::Files::returned_sections))]
 #[unsafe(no_mangle)]
 pub extern "C" fn ctsim_file_sections(file: &[u8], parts: &mut [u64]) -> u64
     ensures { ◌≡◌ {A = ℕ × List ℕ} (result, parts.new) (returned_sections file.now parts.old) }
@@ -87,6 +90,7 @@ pub extern "C" fn ctsim_file_check(file: &[u8]) -> u64
 }
 
 // Which of two files supersedes the other, with offset and length of its records, into the first three places of `part`.
+#[tactic(auto, unfolding(crate::specs::Files::returned_part))]
 #[unsafe(no_mangle)]
 pub extern "C" fn ctsim_file_supersede(first: &[u8], second: &[u8], part: &mut [u64]) -> u64
     ensures { ◌≡◌ {A = ℕ × List ℕ} (result, part.new) (returned_part first.now second.now part.old) }

@@ -6,13 +6,15 @@ ghost use Rattle.capi.specs.Capi.{no_seed, returned_sweep};
 
 use super::SHORT;
 use marshal::convert::config_from;
-use marshal::sweeps::write_sweep;
-use sweep::{sweep_rows, sweep_topology};
+use marshal::numbers::write_number;
+use rules::networks::Asked;
+use sweep::sweep_seeds;
 
 // The seed of a configuration whose seeds are a list.
 const NO_SEED: u64 = 0;
 
 // A sweep of these seeds, of the topology with that number, into `table`. The sum of the rounds into the first place of `rounds`.
+#[tactic(auto, unfolding(crate::specs::Capi::returned_sweep))]
 #[unsafe(no_mangle)]
 pub extern "C" fn ctsim_sweep_topology(
     topology: u64,
@@ -46,11 +48,13 @@ pub extern "C" fn ctsim_sweep_topology(
         interval,
         limit,
     );
-    let answer = sweep_topology(topology, first, second, config, seeds, table);
-    write_sweep(answer, rounds)
+    let asked = Asked::Topology(topology, first, second);
+    let answer = sweep_seeds(asked, config, seeds, table);
+    write_number(answer, rounds)
 }
 
 // A sweep of these seeds, of n nodes with these rows.
+#[tactic(auto, unfolding(crate::specs::Capi::returned_sweep))]
 #[unsafe(no_mangle)]
 pub extern "C" fn ctsim_sweep_rows(
     rows: &[u32],
@@ -83,6 +87,6 @@ pub extern "C" fn ctsim_sweep_rows(
         interval,
         limit,
     );
-    let answer = sweep_rows(rows, n, config, seeds, table);
-    write_sweep(answer, rounds)
+    let answer = sweep_seeds(Asked::Rows(rows, n), config, seeds, table);
+    write_number(answer, rounds)
 }

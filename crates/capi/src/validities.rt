@@ -5,7 +5,8 @@ ghost use Rattle.rules.specs.Networks.{of_rows, of_topology};
 ghost use Rattle.validity.specs.Validity.{validity_for, validity_number};
 
 use marshal::convert::config_from;
-use validity::{validity_rows, validity_topology};
+use rules::networks::Asked;
+use validity::{number, validity_of};
 
 // The validity of a configuration, of the topology with that number: 0 current, 16 outdated, else the refusal's number.
 #[unsafe(no_mangle)]
@@ -35,7 +36,8 @@ pub extern "C" fn ctsim_validity_topology(
         interval,
         limit,
     );
-    validity_topology(topology, first, second, config).number()
+    let asked = Asked::Topology(topology, first, second);
+    number(validity_of(asked, config))
 }
 
 // The validity of a configuration, of n nodes with these rows.
@@ -65,5 +67,5 @@ pub extern "C" fn ctsim_validity_rows(
         interval,
         limit,
     );
-    validity_rows(rows, n, config).number()
+    number(validity_of(Asked::Rows(rows, n), config))
 }

@@ -3,7 +3,7 @@
 #![tactic(auto)]
 
 use listing::write::LISTING_SIZE;
-use streams::{Input, complain, read_input};
+use streams::{give_answer, take_input};
 
 // How much is read. A readable line is far shorter, so a line that is longer is unreadable whatever
 // follows.
@@ -11,16 +11,10 @@ const INPUT_SIZE: usize = 4096;
 
 fn main(rt: HostRuntime) {
     let mut input = [0u8; INPUT_SIZE];
-    let Input::Bytes(n) = read_input(&mut rt.stdin(), &mut input, true) else {
-        complain(&rt.stderr(), b"ctsim: standard input could not be read\n");
+    let Some(n) = take_input(&rt, "ctsim", &mut input, true) else {
         return;
     };
     let mut out = [0u8; LISTING_SIZE];
     let size = program::answer(&input[..n], &mut out);
-    if rt.write_all(&out[..size]).is_err() {
-        complain(
-            &rt.stderr(),
-            b"ctsim: standard output did not take every byte\n",
-        );
-    }
+    give_answer(&rt, "ctsim", &out[..size]);
 }

@@ -7,10 +7,10 @@ ghost use Rattle.listing.specs.Listing.{refusal_most};
 ghost use Rattle.archive_check.specs.Check.{check_of};
 ghost use Rattle.ctsim_check.specs.Verdict.{verdict_text};
 
-use archive_check::{Checked, check_file};
+use archive_check::check_file;
 use listing::write::write_refusal;
-use streams::{Input, complain, read_input};
-use text::overlay::put_word;
+use streams::{give_answer, take_input};
+use text::overlay::write_word;
 
 // The longest file that is taken: about 104,000 snapshots.
 const FILE_MOST: usize = 4194304;
@@ -25,38 +25,25 @@ const ANSWER_SIZE: usize = 31;
 fn answer(file: &[u8], out: &mut [u8]) -> usize
     ensures { Written refusal_most (verdict_text (check_of file.now)) out.old out.new result }
 {
-    let checked = check_file(file);
-    match checked {
-        Checked::Yes => put_word(b"yes\n", out, 0),
-        Checked::No => put_word(b"no\n", out, 0),
-        Checked::Refused(k) => write_refusal(k, out),
+    match check_file(file) {
+        Ok(true) => write_word(b"yes\n", out),
+        Ok(false) => write_word(b"no\n", out),
+        Err(refusal) => write_refusal(refusal.number(), out),
     }
 }
 
 // Checks the file on standard input, which is read into a lent buffer. A file that fills it is too long.
 fn check_input(rt: &HostRuntime, input: &mut [u8]) {
-    let Input::Bytes(n) = read_input(&mut rt.stdin(), input, false) else {
-        complain(
-            &rt.stderr(),
-            b"ctsim-check: standard input could not be read\n",
-        );
+    let Some(n) = take_input(rt, "ctsim-check", input, false) else {
         return;
     };
     if input.len() <= n {
-        complain(
-            &rt.stderr(),
-            b"ctsim-check: more than 4194304 bytes were read\n",
-        );
+        let _ = eprintln!(rt; "ctsim-check: more than {FILE_MOST} bytes were read");
         return;
     }
     let mut out = [0u8; ANSWER_SIZE];
-    let size = answer(&input[0..n], &mut out);
-    if rt.write_all(&out[0..size]).is_err() {
-        complain(
-            &rt.stderr(),
-            b"ctsim-check: standard output did not take every byte\n",
-        );
-    }
+    let size = answer(&input[..n], &mut out);
+    give_answer(rt, "ctsim-check", &out[..size]);
 }
 
 fn main(rt: HostRuntime) {

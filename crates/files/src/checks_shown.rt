@@ -1,67 +1,51 @@
 // Prints what is said of a damaged file: `yes`, `no` or the refusal, and where the layout is kept, its sections.
-use super::damages::Damage;
-use super::made::{
-    FILE_SIZE, Making, UNREADABLE, make_file, put_refused, put_spaced, read_making, smaller,
-};
-use archive::layout::{Layout, SECTION_COUNT, put_parts};
-use archive_check::{Checked, check_file};
-use archive_writer::Written;
-use line::read::{Line, Read, field, field_start, read_line};
-use streams::put;
+use super::made::{FILE_SIZE, make_file, read_making};
+use archive::layout::{SECTION_COUNT, put_parts};
+use archive_check::check_file;
+use config::refusal::Refusal;
+use line::read::{field, field_start, read_line};
+use std::io;
 
 // Offset and length of each section.
 const PARTS: usize = 2 * SECTION_COUNT;
 
-fn put_verdict(rt: &impl Print, verdict: Checked) {
+fn put_verdict(rt: &impl Print, verdict: Result<bool, Refusal>) -> io::Result<()> {
     match verdict {
-        Checked::Yes => {
-            put(rt, b"yes");
-        }
-        Checked::No => {
-            put(rt, b"no");
-        }
-        Checked::Refused(question) => put_refused(rt, question),
+        Ok(true) => print!(rt; "yes"),
+        Ok(false) => print!(rt; "no"),
+        Err(refusal) => print!(rt; "{refusal}"),
     }
 }
 
-fn put_sections(rt: &impl Print, parts: &[u64; PARTS]) {
-    put(rt, b" sections");
-    for i in 0..PARTS {
-        put_spaced(rt, parts[i]);
+fn put_sections(rt: &impl Print, parts: &[u64; PARTS]) -> io::Result<()> {
+    print!(rt; " sections")?;
+    for part in parts {
+        print!(rt; " {part}")?;
     }
+    Ok(())
 }
 
-fn show_checked(rt: &impl Print, file: &[u8]) {
-    put_verdict(rt, check_file(file));
+fn show_checked(rt: &impl Print, file: &[u8]) -> io::Result<()> {
+    put_verdict(rt, check_file(file))?;
     let mut parts = [0u64; PARTS];
     match put_parts(file, &mut parts) {
-        Layout::Kept => put_sections(rt, &parts),
-        Layout::Refused(_) => {}
+        Ok(()) => put_sections(rt, &parts),
+        Err(_) => Ok(()),
     }
 }
 
-fn show_checking(rt: &impl Print, line: Line, room: u64, damage: Damage) {
-    let mut file = [0u8; FILE_SIZE];
-    let answer = make_file(line, room, damage, &mut file);
-    match answer {
-        Written::Refused(question) => put_refused(rt, question),
-        Written::Filed(n) => {
-            let size = smaller(n, FILE_SIZE);
-            show_checked(rt, &file[0..size]);
-        }
-    }
+// Makes the file of `check HOW N ROOM LINE`.
+fn make_checked(line: &[u8], file: &mut [u8]) -> Result<usize, Refusal> {
+    let making = read_making(field(line, 1), field(line, 2), field(line, 3))?;
+    let at = field_start(line, 4);
+    make_file(read_line(&line[at..])?, making, file)
 }
 
 // The answer to `check HOW N ROOM LINE`.
-pub fn show_check(rt: &impl Print, line: &[u8]) {
-    let Making::Of(room, damage) = read_making(field(line, 1), field(line, 2), field(line, 3))
-    else {
-        put_refused(rt, UNREADABLE);
-        return;
-    };
-    let at = field_start(line, 4);
-    match read_line(&line[at..]) {
-        Read::Line(l) => show_checking(rt, l, room, damage),
-        Read::Unreadable => put_refused(rt, UNREADABLE),
+pub fn show_check(rt: &impl Print, line: &[u8]) -> io::Result<()> {
+    let mut file = [0u8; FILE_SIZE];
+    match make_checked(line, &mut file) {
+        Ok(size) => show_checked(rt, &file[..size.min(FILE_SIZE)]),
+        Err(refusal) => print!(rt; "{refusal}"),
     }
 }

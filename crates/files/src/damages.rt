@@ -1,8 +1,6 @@
 // What is done to a file before it is looked at.
 ghost use Rattle.std.specs.Prelude.{◌≤◌, ◌<◌, ◌≡◌, length};
 
-use super::made::smaller;
-
 // By HOW and N. The places are taken modulo the file's bits or bytes.
 #[derive(Clone, Copy)]
 pub enum Damage {
@@ -32,7 +30,7 @@ fn flip(file: &mut [u8], size: usize, n: u64)
     ensures { length file.new ≡ length file.old }
 {
     let place = below(size, n / 8);
-    file[place] = file[place] ^ (1 << (n % 8));
+    file[place] ^= 1 << (n % 8);
 }
 
 fn set(file: &mut [u8], size: usize, n: u64)
@@ -59,7 +57,7 @@ pub fn damaged(file: &mut [u8], size: usize, damage: Damage) -> usize
             size
         }
         Damage::Cut(n) => below(size + 1, n),
-        Damage::Grow(n) => size + smaller(n as usize, file.len() - size),
+        Damage::Grow(n) => size + (n as usize).min(file.len() - size),
         Damage::Whole => size,
     }
 }

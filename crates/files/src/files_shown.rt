@@ -1,13 +1,10 @@
 // Prints the file of a run: its length and its bytes, or the refusal.
 ghost use Rattle.std.specs.Prelude.{◌≤◌, length};
 
-use super::made::{
-    FILE_SIZE, MARK, UNREADABLE, at_most, file_line, put_refused, put_spaced, smaller,
-};
-use archive_writer::Written;
-use line::read::{Line, Read, field, field_start, read_line};
-use streams::{put, put_decimal};
-use text::numeral::{Number, decimal};
+use super::made::{FILE_SIZE, MARK, at_most, file_line, read_number};
+use config::refusal::Refusal;
+use line::read::{field, field_start, read_line};
+use std::io;
 
 // So many zeros in a row, or more, are printed as their number.
 const LEAST_RUN: usize = 4;
@@ -16,73 +13,47 @@ const LEAST_RUN: usize = 4;
 fn zeros(bytes: &[u8]) -> usize
     ensures { result ≤ length bytes.now }
 {
-    for i in 0..bytes.len() {
-        if bytes[i] != 0 {
-            return i;
-        }
-    }
-    bytes.len()
+    bytes
+        .iter()
+        .position(|&byte| byte != 0)
+        .unwrap_or(bytes.len())
 }
 
-fn put_zeros(rt: &impl Print, count: usize) {
-    put(rt, b"z");
-    put_decimal(rt, count as u64);
-    put(rt, b".");
-}
-
-fn put_byte(rt: &impl Print, byte: u8) {
-    let _ = print!(rt; "{byte:02x}");
-}
-
-pub fn put_bytes(rt: &impl Print, bytes: &[u8]) {
-    let mut at = 0;
-    while at < bytes.len() {
-        let count = zeros(&bytes[at..]);
+pub fn put_bytes(rt: &impl Print, bytes: &[u8]) -> io::Result<()> {
+    let mut rest = bytes;
+    while let [first, behind @ ..] = rest {
+        let count = zeros(rest);
         if count < LEAST_RUN {
-            put_byte(rt, bytes[at]);
-            at += 1;
+            print!(rt; "{first:02x}")?;
+            rest = behind;
         } else {
-            put_zeros(rt, count);
-            at += count;
+            print!(rt; "z{count}.")?;
+            rest = &rest[count..];
         }
     }
+    Ok(())
 }
 
-fn put_file(rt: &impl Print, file: &[u8]) {
-    put(rt, b"file");
-    put_spaced(rt, file.len() as u64);
-    put(rt, b" ");
-    put_bytes(rt, file);
+fn put_file(rt: &impl Print, file: &[u8]) -> io::Result<()> {
+    print!(rt; "file {} ", file.len())?;
+    put_bytes(rt, file)
 }
 
-// Files into so many bytes.
-fn show_filing(rt: &impl Print, line: Line, room: u64, file: &mut [u8]) {
-    let answer = file_line(line, room, file);
-    match answer {
-        Written::Refused(question) => put_refused(rt, question),
-        Written::Filed(n) => {
-            let size = smaller(n, file.len());
-            put_file(rt, &file[0..size]);
-        }
-    }
+// Files what `file ROOM LENGTH LINE` asks for, into so many bytes.
+fn file_asked(line: &[u8], file: &mut [u8; FILE_SIZE]) -> Result<usize, Refusal> {
+    let room = read_number(field(line, 1))?;
+    let length = read_number(field(line, 2))?;
+    let at = field_start(line, 3);
+    let asked = read_line(&line[at..])?;
+    let size = at_most(length, FILE_SIZE);
+    file_line(asked, room, &mut file[..size])
 }
 
 // The answer to `file ROOM LENGTH LINE`.
-pub fn show_file(rt: &impl Print, line: &[u8]) {
-    let Number::Of(room) = decimal(field(line, 1)) else {
-        put_refused(rt, UNREADABLE);
-        return;
-    };
-    let Number::Of(length) = decimal(field(line, 2)) else {
-        put_refused(rt, UNREADABLE);
-        return;
-    };
-    let at = field_start(line, 3);
-    let Read::Line(l) = read_line(&line[at..]) else {
-        put_refused(rt, UNREADABLE);
-        return;
-    };
+pub fn show_file(rt: &impl Print, line: &[u8]) -> io::Result<()> {
     let mut file = [MARK; FILE_SIZE];
-    let size = at_most(length, FILE_SIZE);
-    show_filing(rt, l, room, &mut file[0..size]);
+    match file_asked(line, &mut file) {
+        Ok(size) => put_file(rt, &file[..size.min(FILE_SIZE)]),
+        Err(refusal) => print!(rt; "{refusal}"),
+    }
 }

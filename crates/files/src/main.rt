@@ -15,38 +15,28 @@ mod pairs_shown;
 
 use checks_shown::show_check;
 use files_shown::show_file;
-use line::read::{field, until};
+use line::read::field;
 use pairs_shown::show_pair;
-use streams::{put, read_full};
+use std::io;
+use streams::read_full;
 
 const INPUT_SIZE: usize = 65536;
 
-// The length of a line's first word, if it is `file` or `check`.
-const FILE_WORD: usize = 4;
-
-const CHECK_WORD: usize = 5;
-
-fn answer(rt: &impl Print, line: &[u8]) {
-    match field(line, 0).len() {
-        FILE_WORD => show_file(rt, line),
-        CHECK_WORD => show_check(rt, line),
-        _ => show_pair(rt, line),
+fn answer(rt: &impl Print, line: &[u8]) -> io::Result<()> {
+    match field(line, 0) {
+        b"file" => show_file(rt, line)?,
+        b"check" => show_check(rt, line)?,
+        _ => show_pair(rt, line)?,
     }
-    put(rt, b"\n");
+    println!(rt; "")
 }
 
 // Answers one line after another.
-fn answer_lines(rt: &impl Print, input: &[u8]) {
-    let mut at = 0;
-    while at < input.len() {
-        let end = at + until(&input[at..], b'\n');
-        answer(rt, &input[at..end]);
-        at = end + 1;
-    }
-}
-
-fn main(rt: HostRuntime) {
+fn main(rt: HostRuntime) -> io::Result<()> {
     let mut input = [0u8; INPUT_SIZE];
     let n = read_full(&mut rt.stdin(), &mut input);
-    answer_lines(&rt, &input[..n]);
+    for line in input[..n].split_inclusive(|&byte| byte == b'\n') {
+        answer(&rt, line.strip_suffix(b"\n").unwrap_or(line))?;
+    }
+    Ok(())
 }

@@ -1,16 +1,15 @@
 -- A call's numbers as a configuration, and a summary and a ratio as numbers (rules 7.5 and 9.4).
-use Rattle.std.specs.Prelude.{ℕ, cond, List, [], ◌∷◌, ◌++◌, eqb, Float, get_or}
+use Rattle.std.specs.Prelude.{ℕ, cond, List, [], ◌∷◌, ◌++◌, eqb, Float, get_or, Option, Some, None, Result, Ok, Err}
 use Rattle.std.proofs.lemmas.List.Edits.{sets}
-use Rattle.config.specs.declared.RoundSlots.{RoundSlots}
+use Rattle.config.specs.Refusals.{number_of}
+use Rattle.config.specs.declared.refusal.Refusal.{Refusal}
 use Rattle.config.specs.declared.Config.{Config}
 use Rattle.metrics.specs.declared.summary.Summary.{Summary}
-use Rattle.metrics.specs.declared.ratios.Ratio.{Ratio}
 use Rattle.metrics.specs.Totals.{totals}
-use Rattle.rules.specs.declared.answer.Answer.{Answer}
 
 -- the configuration of a run; round slots are absent where `present` is 0
-abbrev pub slots_from : ℕ → ℕ → RoundSlots
-slots_from present slots = cond (eqb present 0) RoundSlots.Absent (RoundSlots.Of slots)
+abbrev pub slots_from : ℕ → ℕ → Option ℕ
+slots_from present slots = cond (eqb present 0) None (Some slots)
 
 abbrev pub config_from : ℕ → ℕ → ℕ → Float → ℕ → ℕ → ℕ → ℕ → Config
 config_from repeats present slots loss seed proposals interval limit =
@@ -33,13 +32,13 @@ abbrev pub summary_numbers : Summary → List ℕ
 summary_numbers s = totals s ++ s.records ∷ s.snapshots ∷ []
 
 -- a run's result, and the slice of its summary
-abbrev pub result_of : Answer → ℕ
-result_of (Answer.Ran s) = 0
-result_of (Answer.Refused k) = k
+abbrev pub result_of : Result Summary Refusal → ℕ
+result_of (Ok s) = 0
+result_of (Err r) = number_of r
 
-abbrev pub with_summary : Answer → List ℕ → List ℕ
-with_summary (Answer.Ran s) out = sets out 0 (summary_numbers s)
-with_summary (Answer.Refused k) out = out
+abbrev pub with_summary : Result Summary Refusal → List ℕ → List ℕ
+with_summary (Ok s) out = sets out 0 (summary_numbers s)
+with_summary (Err r) out = out
 
 -- the summary that a slice's first places hold
 abbrev pub summary_at : List ℕ → Summary
@@ -69,7 +68,7 @@ abbrev pub no_ratio : ℕ
 no_ratio = 101
 
 -- the result of a ratio, and the slice that it is written to
-abbrev pub ratio_result : Ratio → List Float → ℕ × List Float
-ratio_result Ratio.None out = (no_ratio, out)
-ratio_result (Ratio.Of x) out = (0, sets out 0 (x ∷ []))
-ratio_result (Ratio.Refused k) out = (k, out)
+abbrev pub ratio_result : Result (Option Float) Refusal → List Float → ℕ × List Float
+ratio_result (Ok None) out = (no_ratio, out)
+ratio_result (Ok (Some x)) out = (0, sets out 0 (x ∷ []))
+ratio_result (Err r) out = (number_of r, out)

@@ -3,10 +3,9 @@ ghost use Rattle.std.specs.Prelude.{ℕ, ◌≤◌, ◌≡◌, List, Float, leng
 ghost use Rattle.std.proofs.lemmas.List.Edits.{sets};
 ghost use Rattle.marshal.specs.Convert.{summary_size, slots_from, config_from, summary_numbers, summary_at, ratio_result, result_of, with_summary};
 
-use config::{Config, RoundSlots};
-use metrics::ratios::Ratio;
+use config::Config;
+use config::refusal::Refusal;
 use metrics::summary::Summary;
-use rules::answer::Answer;
 
 // How many places a summary has.
 pub const SUMMARY_SIZE: usize = 17;
@@ -14,14 +13,14 @@ pub const SUMMARY_SIZE: usize = 17;
 // No refusal: the divisor is 0, and there is no ratio.
 const NO_RATIO: u64 = 101;
 
-// Round slots, or none where `round_slots_given` is 0.
-fn slots_from(round_slots_given: u64, slots: u64) -> RoundSlots
+// Round slots, or none where `round_slots_given` is 0. No From, here and below: C gives a value in several numbers.
+fn slots_from(round_slots_given: u64, slots: u64) -> Option<u64>
     ensures { result ≡ slots_from round_slots_given slots }
 {
     if round_slots_given == 0 {
-        RoundSlots::Absent
+        None
     } else {
-        RoundSlots::Of(slots)
+        Some(slots)
     }
 }
 
@@ -99,30 +98,30 @@ pub fn read_summary(s: &[u64]) -> Summary
 }
 
 // The result of a ratio, which is written to the first place if there is one.
-pub fn write_ratio(answer: Ratio, out: &mut [f64]) -> u64
+pub fn write_ratio(answer: Result<Option<f64>, Refusal>, out: &mut [f64]) -> u64
     requires { 1 ≤ length out.old }
     ensures { ◌≡◌ {A = ℕ × List Float} (result, out.new) (ratio_result answer out.old) }
 {
     match answer {
-        Ratio::None => NO_RATIO,
-        Ratio::Refused(k) => k,
-        Ratio::Of(x) => {
+        Ok(Some(x)) => {
             out[0] = x;
             0
         }
+        Ok(None) => NO_RATIO,
+        Err(refused) => refused.number(),
     }
 }
 
 // The result of a run's answer; the summary is written if there is one.
-pub fn write_answer(answer: Answer, out: &mut [u64]) -> u64
+pub fn write_answer(answer: Result<Summary, Refusal>, out: &mut [u64]) -> u64
     requires { summary_size ≤ length out.old }
     ensures { ◌≡◌ {A = ℕ × List ℕ} (result, out.new) (result_of answer, with_summary answer out.old) }
 {
     match answer {
-        Answer::Refused(k) => k,
-        Answer::Ran(summary) => {
+        Ok(summary) => {
             write_summary(summary, out);
             0
         }
+        Err(refusal) => refusal.number(),
     }
 }

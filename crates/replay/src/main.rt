@@ -17,19 +17,20 @@ mod validities_shown;
 
 ghost use Rattle.std.specs.Prelude.{◌≡◌, ◌≤◌, length};
 ghost use Rattle.config.specs.Limits.{max_nodes};
-ghost use Rattle.listing.specs.Listing.{listing_most};
 
+use config::Config;
 use config::limits::{LISTED_SIZE, LOG_SIZE, MAX_NODES, RECORDS_SIZE};
-use line::configured::config_of;
-use line::read::{Line, Read, field, field_start, read_line, until};
-use listing::write::{LISTING_SIZE, write_listing, write_refusal};
-use rounds_shown::{show_round_of_rows, show_round_of_topology};
-use rules::answer::Answer;
-use sim::entries::run_rows;
-use streams::{put, read_full};
-use sweeps_shown::{Seeds, show_sweep_of_rows, show_sweep_of_topology};
-use text::numeral::{Number, decimal, numeral};
-use validities_shown::{show_validity_of_rows, show_validity_of_topology};
+use config::refusal::Refusal;
+use line::read::{field, field_start, read_line};
+use listing::write::{LISTING_SIZE, write_listing};
+use rounds_shown::show_round;
+use rules::networks::Asked;
+use sim::entries::run;
+use std::io;
+use streams::read_full;
+use sweeps_shown::{Seeds, show_sweep};
+use text::numeral::{decimal, numeral};
+use validities_shown::show_validity;
 
 const INPUT_SIZE: usize = 131072;
 
@@ -39,237 +40,149 @@ const CONFIG: usize = 256;
 // The sets of all nodes, and one too many.
 const SETS: usize = MAX_NODES + 1;
 
-// The set that 8 hexadecimal digits stand for, the empty set where they stand for none.
-fn set_of(digits: &[u8]) -> u32 {
-    match numeral(16, digits) {
-        Number::Of(n) => (n % 0x1_0000_0000) as u32,
-        Number::Unreadable => 0,
-    }
-}
-
-// Set i of sets of 8 digits with commas between them, the empty set behind the last.
-fn set_at(s: &[u8], i: usize) -> u32
-    requires { i ≤ max_nodes }
-{
-    if 9 * i + 8 <= s.len() {
-        return set_of(&s[9 * i..9 * i + 8]);
-    }
-    0
-}
-
-fn sets(s: &[u8]) -> [u32; SETS]
-    ensures { 33 ≡ length result }
-{
-    let mut rows = [0u32; SETS];
-    for i in 0..SETS {
-        rows[i] = set_at(s, i);
-    }
-    rows
-}
-
-fn smaller(a: usize, b: usize) -> usize
-    ensures { result ≤ b }
-{
-    if a < b { a } else { b }
-}
-
-fn byte_at(s: &[u8], i: usize) -> u8 {
-    if i < s.len() { s[i] } else { b' ' }
-}
-
-// The rest of a line behind three numbers, so that it can be read as the end of a topology's line.
-fn behind_numbers(rest: &[u8]) -> [u8; CONFIG]
-    ensures { 256 ≡ length result }
-{
-    let mut line = [b'0'; CONFIG];
-    line[1] = b' ';
-    line[3] = b' ';
-    line[5] = b' ';
-    for i in 6..CONFIG {
-        line[i] = byte_at(rest, i - 6);
-    }
-    line
-}
-
-// The configuration that the rest of a line asks for.
-fn read_config(rest: &[u8]) -> Read {
-    let line = behind_numbers(rest);
-    let n = smaller(rest.len(), CONFIG - 6) + 6;
-    read_line(&line[..n])
-}
-
-// Runs the rows, and lays the listing or refusal over the buffer.
-fn run_sets(rows: &[u32], nodes: u64, line: Line, out: &mut [u8]) -> usize
-    ensures { result ≤ listing_most }
-{
-    let mut logs = [0u8; LOG_SIZE];
-    let mut records = [0u64; RECORDS_SIZE];
-    let mut snapshots = [0u64; LISTED_SIZE];
-    let config = config_of(line);
-    let answer = run_rows(rows, nodes, config, &mut logs, &mut records, &mut snapshots);
-    match answer {
-        Answer::Ran(summary) => write_listing(summary, &records, &snapshots, &logs, out),
-        Answer::Refused(k) => write_refusal(k, out),
-    }
-}
-
-// What is printed at once, and leaves nothing in the buffer: one round, a sweep or the configuration's validity.
+// What a line asks for.
 #[derive(Clone, Copy)]
-enum Shown {
+enum Wanted {
+    Run,
     Round(u64),
     Sweep(Seeds),
     Validity,
 }
 
-// What a line asks for.
-#[derive(Clone, Copy)]
-enum Wanted {
-    Run,
-    Shown(Shown),
+// The set that 8 hexadecimal digits stand for, the empty set where they stand for none.
+fn set_of(digits: &[u8]) -> u32 {
+    numeral(16, digits).map_or(0, |n| (n % 0x1_0000_0000) as u32)
 }
 
-fn show_of_rows(rt: &impl Print, rows: &[u32], nodes: u64, line: Line, shown: Shown) {
-    let config = config_of(line);
-    match shown {
-        Shown::Round(k) => show_round_of_rows(rt, rows, nodes, config, k),
-        Shown::Sweep(seeds) => show_sweep_of_rows(rt, rows, nodes, config, seeds),
-        Shown::Validity => show_validity_of_rows(rt, rows, nodes, config),
-    }
-}
-
-fn show_of_topology(rt: &impl Print, line: Line, shown: Shown) {
-    match shown {
-        Shown::Round(k) => show_round_of_topology(rt, line, k),
-        Shown::Sweep(seeds) => show_sweep_of_topology(rt, line, seeds),
-        Shown::Validity => show_validity_of_topology(rt, line),
-    }
-}
-
-// Answers for the rows.
-fn answer_sets(
-    rt: &impl Print,
-    rows: &[u32],
-    nodes: u64,
-    line: Line,
-    wanted: Wanted,
-    out: &mut [u8],
-) -> usize
-    ensures { result ≤ listing_most }
+// Sets of 8 digits with commas between them, and empty sets behind the last.
+fn sets(text: &[u8]) -> [u32; SETS]
+    ensures { 33 ≡ length result }
 {
-    match wanted {
-        Wanted::Run => run_sets(rows, nodes, line, out),
-        Wanted::Shown(shown) => {
-            show_of_rows(rt, rows, nodes, line, shown);
-            0
+    let mut rows = [0u32; SETS];
+    for (i, row) in rows.iter_mut().enumerate() {
+        if 9 * i + 8 <= text.len() {
+            *row = set_of(&text[9 * i..9 * i + 8]);
         }
     }
+    rows
 }
 
-// The answer to a line `rows nodes SETS`, followed by the configuration.
-fn answer_rows(rt: &impl Print, line: &[u8], wanted: Wanted, out: &mut [u8]) -> usize
-    ensures { result ≤ listing_most }
-{
-    let Number::Of(nodes) = decimal(field(line, 1)) else {
-        return write_refusal(12, out);
+// The configuration that the rest of a line asks for, which is read as the end of a topology's line.
+fn read_config(rest: &[u8]) -> Result<Config, Refusal> {
+    let mut line = [0u8; CONFIG];
+    let end = 6 + rest.len().min(CONFIG - 6);
+    line[..6].copy_from_slice(b"0 0 0 ");
+    line[6..end].copy_from_slice(&rest[..end - 6]);
+    read_line(&line[..end]).map(Config::from)
+}
+
+// Prints the listing of a run, or the refusal.
+fn show_run(rt: &impl Print, asked: Asked, config: Config) -> io::Result<()> {
+    let mut logs = [0u8; LOG_SIZE];
+    let mut records = [0u64; RECORDS_SIZE];
+    let mut snapshots = [0u64; LISTED_SIZE];
+    match run(asked, config, &mut logs, &mut records, &mut snapshots) {
+        Ok(summary) => {
+            let mut out = [0u8; LISTING_SIZE];
+            let size = write_listing(summary, &records, &snapshots, &logs, &mut out);
+            rt.write_all(&out[..size])
+        }
+        Err(refusal) => println!(rt; "{refusal}"),
+    }
+}
+
+// Prints what is wanted of a configuration on the network that is asked for.
+fn show(rt: &impl Print, asked: Asked, config: Config, wanted: Wanted) -> io::Result<()> {
+    match wanted {
+        Wanted::Run => show_run(rt, asked, config),
+        Wanted::Round(k) => show_round(rt, asked, config, k),
+        Wanted::Sweep(seeds) => show_sweep(rt, asked, config, seeds),
+        Wanted::Validity => show_validity(rt, asked, config),
+    }
+}
+
+fn show_unreadable(rt: &impl Print) -> io::Result<()> {
+    println!(rt; "{}", Refusal::UnreadableLine)
+}
+
+// The answer to a line `rows NODES SETS`, followed by the configuration.
+fn answer_rows(rt: &impl Print, line: &[u8], wanted: Wanted) -> io::Result<()> {
+    let Some(nodes) = decimal(field(line, 1)) else {
+        return show_unreadable(rt);
     };
     let text = field(line, 2);
     let rows = sets(text);
-    let count = smaller((text.len() + 1) / 9, SETS);
+    let count = ((text.len() + 1) / 9).min(SETS);
     let at = field_start(line, 3);
     match read_config(&line[at..]) {
-        Read::Line(l) => answer_sets(rt, &rows[..count], nodes, l, wanted, out),
-        Read::Unreadable => write_refusal(12, out),
+        Ok(config) => show(rt, Asked::Rows(&rows[..count], nodes), config, wanted),
+        Err(refusal) => println!(rt; "{refusal}"),
     }
 }
 
-// The answer to the program's line.
-fn answer_topology(rt: &impl Print, line: &[u8], wanted: Wanted, out: &mut [u8]) -> usize
-    ensures { result ≤ listing_most }
-{
-    match wanted {
-        Wanted::Run => program::answer(line, out),
-        Wanted::Shown(shown) => match read_line(line) {
-            Read::Unreadable => write_refusal(12, out),
-            Read::Line(l) => {
-                show_of_topology(rt, l, shown);
-                0
-            }
-        },
+// The answer to the program's line. Its run is the program's own.
+fn answer_topology(rt: &impl Print, line: &[u8], wanted: Wanted) -> io::Result<()> {
+    if let Wanted::Run = wanted {
+        let mut out = [0u8; LISTING_SIZE];
+        let size = program::answer(line, &mut out);
+        return rt.write_all(&out[..size]);
+    }
+    match read_line(line) {
+        Ok(l) => {
+            let asked = Asked::Topology(l.topology, l.first, l.second);
+            show(rt, asked, Config::from(l), wanted)
+        }
+        Err(refusal) => println!(rt; "{refusal}"),
     }
 }
 
-// The answer to a line of rows, or to the program's.
-fn answer_wanted(rt: &impl Print, line: &[u8], wanted: Wanted, out: &mut [u8]) -> usize
-    ensures { result ≤ listing_most }
-{
-    if byte_at(line, 0) == b'r' {
-        return answer_rows(rt, line, wanted, out);
+// The answer to a line of rows, or to the program's, that begins at field k.
+fn answer_wanted(rt: &impl Print, line: &[u8], k: usize, wanted: Wanted) -> io::Result<()> {
+    let at = field_start(line, k);
+    let line = &line[at..];
+    if line.starts_with(b"rows ") {
+        answer_rows(rt, line, wanted)
+    } else {
+        answer_topology(rt, line, wanted)
     }
-    answer_topology(rt, line, wanted, out)
 }
 
-// The answer to `sweep LENGTH COUNT FIRST STEP` and the line behind it.
-fn answer_sweep(rt: &impl Print, line: &[u8], out: &mut [u8]) -> usize
-    ensures { result ≤ listing_most }
-{
-    let Number::Of(length) = decimal(field(line, 1)) else {
-        return write_refusal(12, out);
-    };
-    let Number::Of(count) = decimal(field(line, 2)) else {
-        return write_refusal(12, out);
-    };
-    let Number::Of(first) = decimal(field(line, 3)) else {
-        return write_refusal(12, out);
-    };
-    let Number::Of(step) = decimal(field(line, 4)) else {
-        return write_refusal(12, out);
-    };
-    let seeds = Seeds {
-        length,
-        count,
-        first,
-        step,
-    };
-    let at = field_start(line, 5);
-    answer_wanted(rt, &line[at..], Wanted::Shown(Shown::Sweep(seeds)), out)
+// The seeds of `sweep LENGTH COUNT FIRST STEP`.
+fn seeds_in(line: &[u8]) -> Option<Seeds> {
+    Some(Seeds {
+        length: decimal(field(line, 1))?,
+        count: decimal(field(line, 2))?,
+        first: decimal(field(line, 3))?,
+        step: decimal(field(line, 4))?,
+    })
 }
 
-// The answer to a line, to one behind `round K`, which the third letter tells from `rows`, to a sweep, or to one behind
-// `validity`.
-fn answer(rt: &impl Print, line: &[u8], out: &mut [u8]) -> usize
-    ensures { result ≤ listing_most }
-{
-    if byte_at(line, 0) == b's' {
-        return answer_sweep(rt, line, out);
+// The answer to a line, or to one behind `round K`, a sweep's seeds or `validity`.
+fn answer(rt: &impl Print, line: &[u8]) -> io::Result<()> {
+    if line.starts_with(b"sweep ") {
+        return match seeds_in(line) {
+            Some(seeds) => answer_wanted(rt, line, 5, Wanted::Sweep(seeds)),
+            None => show_unreadable(rt),
+        };
     }
-    if byte_at(line, 0) == b'v' {
-        let at = field_start(line, 1);
-        return answer_wanted(rt, &line[at..], Wanted::Shown(Shown::Validity), out);
+    if line.starts_with(b"validity ") {
+        return answer_wanted(rt, line, 1, Wanted::Validity);
     }
-    if byte_at(line, 2) != b'u' {
-        return answer_wanted(rt, line, Wanted::Run, out);
+    if line.starts_with(b"round ") {
+        return match decimal(field(line, 1)) {
+            Some(k) => answer_wanted(rt, line, 2, Wanted::Round(k)),
+            None => show_unreadable(rt),
+        };
     }
-    let Number::Of(k) = decimal(field(line, 1)) else {
-        return write_refusal(12, out);
-    };
-    let at = field_start(line, 2);
-    answer_wanted(rt, &line[at..], Wanted::Shown(Shown::Round(k)), out)
+    answer_wanted(rt, line, 0, Wanted::Run)
 }
 
 // Answers one line after another.
-fn replay(rt: &impl Print, input: &[u8]) {
-    let mut out = [0u8; LISTING_SIZE];
-    let mut at = 0;
-    while at < input.len() {
-        let end = at + until(&input[at..], b'\n');
-        let size = answer(rt, &input[at..end], &mut out);
-        put(rt, &out[..size]);
-        at = end + 1;
-    }
-}
-
-fn main(rt: HostRuntime) {
+fn main(rt: HostRuntime) -> io::Result<()> {
     let mut input = [0u8; INPUT_SIZE];
     let n = read_full(&mut rt.stdin(), &mut input);
-    replay(&rt, &input[..n]);
+    for line in input[..n].split_inclusive(|&byte| byte == b'\n') {
+        answer(&rt, line.strip_suffix(b"\n").unwrap_or(line))?;
+    }
+    Ok(())
 }

@@ -1,19 +1,25 @@
-use Rattle.std.proofs.Common.{sym, ap, ◌∙◌, subst}
-use Rattle.line.specs.declared.read.Read.{Read}
+use Rattle.std.proofs.Common.{Result, sym, ap, ◌∙◌, subst, arith}
+use Rattle.std.proofs.lemmas.Result.{err_from_is_err_and}
+use Rattle.config.specs.declared.refusal.Refusal.{Refusal}
+use Rattle.line.specs.declared.read.Line.{Line}
 use Rattle.ctsim_file.specs.Filed.{read_filing, filed_for}
 use Rattle.ctsim_file.proofs.Filings.{Sized, line_within}
 use Rattle.ctsim_file.proofs.file_input.Goals as goal
 
-pub returns-in-Line-clause-filed : goal.returns-in-Line-clause-filed
+pub returns-clause-filed : goal.returns-clause-filed
 unfolding filed_for
-returns-in-Line-clause-filed c =
-    c.file_line.ensures
-    ∙ ap (λ (x : Read). read_filing x c.args.file.now) (sym c.in-Line.is ∙ c.read_line-read.ensures)
+returns-clause-filed c = c.file_line.ensures ∙ ap (λ (x : Result Line Refusal). read_filing x c.args.file.now) c.in_ok-line.ensures
 
-pub returns-in-Line-clause-within : goal.returns-in-Line-clause-within
-returns-in-Line-clause-within c = subst Sized (sym c.file_line.ensures) (line_within _ c.args.file.now)
+pub returns-clause-within : goal.returns-clause-within
+returns-clause-within c = subst Sized (sym c.file_line.ensures) (line_within _ c.args.file.now)
 
-pub returns-in-Unreadable-clause-filed : goal.returns-in-Unreadable-clause-filed
+pub returns-in_err-line-clause-filed : goal.returns-in_err-line-clause-filed
 unfolding filed_for
-returns-in-Unreadable-clause-filed c =
-    ap (λ (x : Read). read_filing x c.args.file.now) (sym c.in-Unreadable.is ∙ c.read_line-read.ensures)
+returns-in_err-line-clause-filed c =
+    let p = err_from_is_err_and c.from_residual.result c.from_residual.ensures.1 in
+    rw (p.1, p.2) (ap (λ (x : Result Line Refusal). read_filing x c.args.file.now) c.in_err-line.ensures)
+
+pub returns-in_err-line-clause-within : goal.returns-in_err-line-clause-within
+returns-in_err-line-clause-within c =
+    let p = err_from_is_err_and c.from_residual.result c.from_residual.ensures.1 in
+    rw p.1 (omega arith)
