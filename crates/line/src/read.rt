@@ -39,7 +39,7 @@ fn part_before(s: &[u8], stop: u8) -> &[u8]
     &s[..end]
 }
 
-// How many fields there are in a line.
+// How many fields a line has.
 fn field_count(line: &[u8]) -> usize
     ensures { result ≡ length (fields line.now) }
 {

@@ -1,5 +1,5 @@
-// Values as the numbers that a call has in C: the configuration, a summary, a ratio, a number, a packet and its text, a
-// round that is looked ahead to, an archive file.
+// Values as the numbers that a call has in C: the configuration, a summary, a ratio, a packet and its text, a sweep, an
+// archive file.
 #![tactic(auto)]
 
 pub mod convert;

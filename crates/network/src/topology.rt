@@ -65,8 +65,8 @@ fn grid(rows: u64, columns: u64) -> Result<Graph, Refusal>
     asked(Topology::Grid(columns as usize), rows * columns, 0, 0)
 }
 
-// The topology with that number, by the three numbers that C and a line give. `first` is the number of nodes, for a grid of
-// rows, and `second` a grid's columns or a tree's branching factor.
+// The topology with that number, by the three numbers that C and a line give. `first` is the number of nodes, for a grid of rows, and `second` a grid's columns or a
+// tree's branching factor.
 pub fn build_graph(topology: u64, first: u64, second: u64) -> Result<Graph, Refusal>
     ensures { result ≡ built_graph topology first second }
 {
@@ -86,8 +86,7 @@ pub fn build_graph(topology: u64, first: u64, second: u64) -> Result<Graph, Refu
     }
 }
 
-// The graph of n nodes with these rows, by the slice and the number that C and a line give, where there are 2 to 32 nodes
-// (2) and the first n rows are right (4).
+// The graph of n nodes with these rows, by the slice and the number that C and a line give, where there are 2 to 32 nodes (2) and the first n rows are right (4).
 pub fn checked_graph(rows: &[u32], n: u64) -> Result<Graph, Refusal>
     ensures { result ≡ checked_graph rows.now n }
 {

@@ -1,4 +1,4 @@
-// One node of all, altered in place. Every other one is what it was.
+// One node of all, altered in place. Every other record is what it was.
 ghost use Rattle.std.specs.Prelude.{◌≡◌, ◌<◌, ◌+◌, ◌^◌};
 ghost use Rattle.config.specs.Limits.{max_nodes};
 ghost use Rattle.phy.specs.Node as Spec;

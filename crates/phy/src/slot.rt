@@ -45,7 +45,7 @@ pub struct Tried {
 
 // Where the radios of a run stand: the sets of the nodes that listen and that flood, and the slots that all
 // nodes have spent in each state. Of the snapshots, those from the number `first_stored` on go into a lent
-// slice. The stream of the draws is lent too.
+// slice. The stream of the draws stands in a lent table.
 #[derive(Clone, Copy)]
 pub struct Radios {
     pub listening: u64,

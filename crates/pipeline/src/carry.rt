@@ -27,20 +27,19 @@ pub struct Carry {
 }
 
 // What f answers where it is lent a table of so many nodes' states, all of them empty. A table that fits few nodes takes less
-// time to fill. Each stands in a block of its own: the largest, left outside, was filled in every call. f stays the caller's,
-// who so knows what the call left in what f borrows.
+// time to fill. f stays the caller's, who so knows what the call left in what f borrows.
 pub fn with_states<R, F: FnMut(&mut [PaxosState]) -> R>(nodes: usize, f: &mut F) -> R
     requires { (states : _) → states.now ≡ replicate (table_size nodes) no_terms → F.pre f.old states }
     ensures { (left : List PaxosState) × CalledAtMut F.FnMut f.old (replicate (table_size nodes) no_terms) result f.new left }
 {
     if nodes <= FEW_NODES {
         let mut few = [PaxosState::EMPTY; FEW_NODES];
-        f(&mut few)
-    } else if nodes <= SOME_NODES {
-        let mut some = [PaxosState::EMPTY; SOME_NODES];
-        f(&mut some)
-    } else {
-        let mut all = [PaxosState::EMPTY; MAX_NODES];
-        f(&mut all)
+        return f(&mut few);
     }
+    if nodes <= SOME_NODES {
+        let mut some = [PaxosState::EMPTY; SOME_NODES];
+        return f(&mut some);
+    }
+    let mut all = [PaxosState::EMPTY; MAX_NODES];
+    f(&mut all)
 }

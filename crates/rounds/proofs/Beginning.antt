@@ -14,6 +14,7 @@ use Rattle.network.specs.Graph.{has, set_of}
 use Rattle.network.proofs.Lowest.{has_zero}
 use Rattle.random.proofs.Tables.{is_tabulate}
 use Rattle.phy.specs.declared.node.Node.{Node}
+use Rattle.std.specs.Prelude.{None}
 use Rattle.phy.specs.declared.slot.Radios.{Radios}
 use Rattle.phy.specs.Node.{new, total, is_listening, is_flooding}
 use Rattle.phy.specs.Slot.{at, Standing}

@@ -26,8 +26,8 @@ pub struct Plan {
     pub config: Config,
 }
 
-// What the rounds write to: the queue of the flooding nodes, the stream of the draws, and, lent, the table of the nodes'
-// Paxos states, the proposals' history and the snapshots.
+// What the rounds write to: the queue of the flooding nodes, the stream of the draws, and lent tables of the nodes' Paxos states, of
+// the proposals' history and of the snapshots.
 #[derive(Drop)]
 pub struct Workspace<'a> {
     pub queue: [u64; QUEUE_SIZE],

@@ -3,6 +3,7 @@ use Rattle.std.specs.Prelude.{ℕ, zero, suc, ◌+◌, ◌-◌, ◌*◌, Bool, t
 use Rattle.config.specs.Limits.{rounds_per_link, extra_rounds, most_rounds}
 use Rattle.network.specs.Graph.{all}
 use Rattle.phy.specs.declared.packet.Packet.{Packet}
+use Rattle.std.specs.Prelude.{Option, None}
 use Rattle.phy.specs.Node.{new}
 use Rattle.phy.specs.Slot.{Setup, Standing}
 use Rattle.phy.specs.Round.{Flooded, took_part_of, length_limit, round}

@@ -5,6 +5,7 @@ use mathlib.Core.Path.{◌≡◌, refl}
 use mathlib.Core.Bool.{true}
 use native.Mathlib.Omega.{arith}
 use borrow.Author.Tests.{eqb-true, le-leb, leb-true, lt-ltb, ltb-true}
+use Rattle.std.specs.Prelude.{Option, Some, None}
 use Rattle.config.specs.Limits.{max_nodes, max_terms, min_nodes}
 use Rattle.network.specs.declared.units.Term.{Term}
 use Rattle.network.proofs.Sets.{and_both}

@@ -9,6 +9,7 @@ use native.Mathlib.Omega.{arith}
 use lib.Dec.{leb, ltb}
 use lib.ListN.{length, length-append}
 use borrow.Author.Tests.{ltb-true, ltb-false}
+use Rattle.std.specs.Prelude.{Option, Some, None}
 use Rattle.network.specs.declared.units.Term.{Term}
 use Rattle.config.specs.Limits.{max_nodes}
 use Rattle.network.specs.Graph.{has}

@@ -14,6 +14,7 @@ use Rattle.config.specs.declared.refusal.Refusal.{Refusal}
 use Rattle.config.specs.Limits.{min_nodes, max_nodes, max_terms}
 use Rattle.network.specs.Graph.{set_of}
 use Rattle.network.proofs.Sets.{and_both}
+use Rattle.phy.specs.declared.packet.Piggyback.{Piggyback}
 use Rattle.phy.specs.declared.packet.Packet.{Packet}
 use Rattle.text.proofs.Overlays.{front_is}
 use Rattle.text.specs.Text.{ascii, spelled, spelled_in}

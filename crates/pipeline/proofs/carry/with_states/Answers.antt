@@ -22,8 +22,8 @@ returns-then-nodes-le-SOME_NODES g c = (
   },
 )
 
-pub f-requires-else-nodes-le-SOME_NODES : goal.f-requires-else-nodes-le-SOME_NODES
-f-requires-else-nodes-le-SOME_NODES g c = c.requires _ (table_all c.args.nodes c.if-nodes-le-SOME_NODES.false)
+pub f-requires-2 : goal.f-requires-2
+f-requires-2 g c = c.requires _ (table_all c.args.nodes c.if-nodes-le-SOME_NODES.false)
 
-pub returns-else-nodes-le-SOME_NODES : goal.returns-else-nodes-le-SOME_NODES
-returns-else-nodes-le-SOME_NODES g c = (_, record { shown = _; shows = table_all c.args.nodes c.if-nodes-le-SOME_NODES.false; left = _; called = c.f-else-nodes-le-SOME_NODES.ensures; leaves = refl })
+pub returns : goal.returns
+returns g c = (_, record { shown = _; shows = table_all c.args.nodes c.if-nodes-le-SOME_NODES.false; left = _; called = c.f-2.ensures; leaves = refl })
