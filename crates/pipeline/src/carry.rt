@@ -1,6 +1,7 @@
 // What the rounds of a run carry, after ctsim's sim/pipeline.rs.
-ghost use Rattle.std.specs.Prelude.{◌≡◌, List, replicate};
+ghost use Rattle.std.specs.Prelude.{◌≡◌, ◌≤◌, List, replicate};
 ghost use Rattle.std.specs.Fn.{CalledAtMut};
+ghost use Rattle.config.specs.Limits.{max_nodes};
 ghost use Rattle.protocol.specs.declared.state.PaxosState.{PaxosState};
 ghost use Rattle.protocol.specs.View.{no_terms};
 ghost use Rattle.pipeline.specs.View.{table_size};
@@ -26,20 +27,27 @@ pub struct Carry {
     pub piggybacks: u64,
 }
 
-// What f answers where it is lent a table of so many nodes' states, all of them empty. A table that fits few nodes takes less
-// time to fill. f stays the caller's, who so knows what the call left in what f borrows.
+// What f answers where it is lent a table of N empty states. Never inlined: so a call fills the one table that it needs, and what
+// comes before it, as a question that refuses, takes no such memory.
+#[inline(never)]
+fn with_table<const N: usize, R, F: FnMut(&mut [PaxosState]) -> R>(f: &mut F) -> R
+    requires { (N ≤ max_nodes) × ((states : _) → states.now ≡ replicate N no_terms → F.pre f.old states) }
+    ensures { (left : List PaxosState) × CalledAtMut F.FnMut f.old (replicate N no_terms) result f.new left }
+{
+    let mut states = [PaxosState::EMPTY; N];
+    f(&mut states)
+}
+
+// The same with a table for so many nodes. f stays the caller's, who so knows what the call left in what f borrows.
 pub fn with_states<R, F: FnMut(&mut [PaxosState]) -> R>(nodes: usize, f: &mut F) -> R
     requires { (states : _) → states.now ≡ replicate (table_size nodes) no_terms → F.pre f.old states }
     ensures { (left : List PaxosState) × CalledAtMut F.FnMut f.old (replicate (table_size nodes) no_terms) result f.new left }
 {
     if nodes <= FEW_NODES {
-        let mut few = [PaxosState::EMPTY; FEW_NODES];
-        return f(&mut few);
+        with_table::<FEW_NODES, R, F>(f)
+    } else if nodes <= SOME_NODES {
+        with_table::<SOME_NODES, R, F>(f)
+    } else {
+        with_table::<MAX_NODES, R, F>(f)
     }
-    if nodes <= SOME_NODES {
-        let mut some = [PaxosState::EMPTY; SOME_NODES];
-        return f(&mut some);
-    }
-    let mut all = [PaxosState::EMPTY; MAX_NODES];
-    f(&mut all)
 }
