@@ -1,5 +1,6 @@
 -- What a value that may be refused says of the refusal. Assumes nothing.
-use Rattle.std.proofs.Common.{◌≡◌, refl, sym, ℕ, Option, Some, None, Ok, Err, arith}
+use Rattle.std.proofs.Common.{◌≡◌, refl, sym, ap, ℕ, Option, Some, None, Result, Ok, Err, arith}
+use Rattle.std.specs.Prelude.{IsErrAnd}
 use Rattle.config.specs.Refusals.{unless}
 use Rattle.config.specs.declared.refusal.Refusal.{Refusal}
 
@@ -19,3 +20,8 @@ still_refused x y o r e = let z : o ≡ Some r = refused x o r (sym e) in rw z r
 -- nothing refuses it
 pub not_refused : {T : Type 0} (x : T) (o : Option Refusal) → o ≡ None → Ok x ≡ unless o x
 not_refused x o e = rw e refl
+
+-- what the exit of a `?` gives: the refusal that came
+pub goes_up : {T : Type 0} {refusal : Refusal} (r : Result T Refusal) → IsErrAnd r (λ y. y ≡ refusal) → r ≡ Err refusal
+goes_up (Ok x) h = absurd h
+goes_up (Err y) h = ap Err h

@@ -1,7 +1,7 @@
 -- A grid by rows and columns is the grid that the source builds: each node with the one to its right and the one below.
 -- Assumes nothing.
 use mathlib.Core.Path.{◌≡◌, sym, ap, ap₂, ◌∙◌, subst}
-use mathlib.Core.Bool.{Bool, true, ◌&&◌, ◌||◌}
+use mathlib.Core.Bool.{true, ◌&&◌, ◌||◌}
 use mathlib.Core.Logic.{⊎_elim}
 use Prim.Native.Nat.{ℕ, ◌+◌, ◌*◌, ◌/◌, ◌%◌, ◌<◌}
 use native.Mathlib.Nat.{div-add-mod', mod-lt, add-div_right, add-mod_right, add-mul, one-mul}
@@ -9,14 +9,12 @@ use native.Mathlib.Omega.{arith}
 use lib.Dec.{eqb, ltb}
 use lib.Arith.{digits_div, digits_mod}
 use borrow.Author.Tests.{eq-eqb, eqb-true, lt-ltb, ltb-true}
+use Rattle.std.proofs.lemmas.Bool.{or_left}
 use Rattle.network.specs.Topology.{beside, linked_in}
 use Rattle.network.specs.Builders.{right_or_below}
 use Rattle.network.specs.declared.topology.Topology.TheVariants.{Grid}
 use Rattle.network.proofs.Topologies.{links_sym}
 use Rattle.network.proofs.Sets.{same, and_both, or_either, or_right}
-
-or_left : (a b : Bool) → a ≡ true → a || b ≡ true
-or_left a b e = ap (λ (x : Bool). x || b) e
 
 module _ (c : ℕ) (h : 0 < c) where
   -- the next in a row, and the one below, by their numbers

@@ -81,7 +81,7 @@ halves a q (suc (suc y)) h g = absurd (omega arith)
 
 minus_bit : (j a b : ℕ) → (a - bit_and a b) / 2 ^ j % 2 ≡ a / 2 ^ j % 2 - min (a / 2 ^ j % 2) (b / 2 ^ j % 2)
 minus_bit zero a b =
-    rw (div-one, div-one, div-one, and_step a b) (halves a (bit_and (a / 2) (b / 2)) (b % 2) (and_le_l (a / 2) (b / 2)) (mod-lt b (omega arith))).1
+    rw (div-one (a - bit_and a b), div-one a, div-one b, and_step a b) (halves a (bit_and (a / 2) (b / 2)) (b % 2) (and_le_l (a / 2) (b / 2)) (mod-lt b (omega arith))).1
 minus_bit (suc j) a b =
     let e : (a - bit_and a b) / 2 ≡ a / 2 - bit_and (a / 2) (b / 2) =
     rw (and_step a b) (halves a (bit_and (a / 2) (b / 2)) (b % 2) (and_le_l (a / 2) (b / 2)) (mod-lt b (omega arith))).0 in
@@ -162,14 +162,22 @@ pub record Walked (s rest m : ℕ) : Type 0 where
   pub inside : (j : ℕ) → m ≤ j → has s j ≡ has rest j
   pub after : (j : ℕ) → j < m → has rest j ≡ false
 
+-- as a walk begins, all of the set is left
+pub walk_begins : {s rest : ℕ} → rest ≡ s → Walked s rest 0
+walk_begins e = record { part = omega (arith, e); inside = λ j l. ap (λ (r : ℕ). has r j) (sym e); after = λ j l. absurd (omega (arith, l)) }
+
 pub walked_none : (s : ℕ) → Walked s s 0
-walked_none s = record { part = omega arith; inside = λ j l. refl; after = λ j l. absurd (omega (arith, l)) }
+walked_none s = walk_begins refl
 
 pub has_zero : (j : ℕ) → has 0 j ≡ false
 has_zero j = has_out {n = 0} (omega arith) j (omega arith)
 
+-- and as it ends, none of it
+pub walk_ends : {s rest m : ℕ} → Walked s rest m → rest ≡ 0 → (j : ℕ) → m ≤ j → has s j ≡ false
+walk_ends x e j l = x.inside j l ∙ ap (λ (r : ℕ). has r j) e ∙ has_zero j
+
 pub walked_all : {s m : ℕ} → Walked s 0 m → (j : ℕ) → m ≤ j → has s j ≡ false
-walked_all x j l = x.inside j l ∙ has_zero j
+walked_all x j l = walk_ends x refl j l
 
 pub nonzero : {x : ℕ} → (x ≡ 0 → ⊥) → 1 ≤ x
 nonzero p = ⊎_elim (λ e. absurd (p (sym e))) (λ l. l) (eq-or-lt_of_le (omega arith))
@@ -228,5 +236,5 @@ taken_passed {m = m} {t = t} P x f g p =
     below_more P t (λ j l. ⊎_elim (λ e. f j (ltb-true j m e)) (λ e. g j (x.none j (ltb-false j m e) l)) (two (ltb j m))) p
 
 -- and where none is left, of every node
-pub walked_each : {s m : ℕ} (P : ℕ → Type 0) → Walked s 0 m → ((j : ℕ) → j < m → P j) → ((j : ℕ) → has s j ≡ false → P j) → (j : ℕ) → P j
-walked_each {m = m} P x f g j = ⊎_elim (λ e. f j (ltb-true j m e)) (λ e. g j (walked_all x j (ltb-false j m e))) (two (ltb j m))
+pub walked_each : {s rest m : ℕ} (P : ℕ → Type 0) → Walked s rest m → rest ≡ 0 → ((j : ℕ) → j < m → P j) → ((j : ℕ) → has s j ≡ false → P j) → (j : ℕ) → P j
+walked_each {m = m} P x done f g j = ⊎_elim (λ e. f j (ltb-true j m e)) (λ e. g j (walk_ends x done j (ltb-false j m e))) (two (ltb j m))

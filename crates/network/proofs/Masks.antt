@@ -2,14 +2,14 @@
 -- Assumes nothing.
 use mathlib.Core.Path.{◌≡◌, refl, sym, ap, ap₂, ◌∙◌, subst}
 use mathlib.Core.Bool.{Bool, true, false, cond, not, ◌&&◌, ◌||◌, and_comm}
-use Prim.Native.Nat.{ℕ, zero, suc, ◌+◌, ◌-◌, ◌*◌, ◌/◌, ◌%◌, ◌^◌, ◌≤◌, ◌<◌}
+use Prim.Native.Nat.{ℕ, ◌+◌, ◌-◌, ◌*◌, ◌/◌, ◌%◌, ◌^◌, ◌≤◌, ◌<◌}
 use native.Mathlib.Nat.{pow-suc, le_refl, le_step, add-zero, mod-lt, div-mul-le_self, lt-div-mul-add, div-add-mod', mul-mod_left, add-mul, one-mul}
 use native.Mathlib.Decide.{le_ind}
 use native.Mathlib.Omega.{arith}
-use borrow.Author.Tests.{eq-eqb, eqb-true, ne_eqb, lt-leb, lt-ltb, le-ltb, ltb-true, ltb-false}
+use borrow.Author.Tests.{eq-eqb, eqb-true, lt-leb, lt-ltb, le-ltb, ltb-true, ltb-false}
 use lib.Arith.{digits_div, digits_mod}
 use lib.Bits.{bit_or, or_lt}
-use lib.Dec.{eqb, leb, ltb, eqb-suc-zero, eqb-zero-suc}
+use lib.Dec.{eqb, leb, ltb}
 use lib.Pow.{pow_pos, pow_mono}
 use Rattle.network.specs.Graph.{set_of}
 use Rattle.network.specs.Topology.{first_and_last, child}
@@ -72,20 +72,9 @@ others_set n i h =
     without true = refl
     without false = refl
 
--- ---- one node, and one node k back
+-- ---- one node
 pub only_set : (n j : ℕ) → j < n → 2 ^ j ≡ set_of n (eqb j)
 only_set n j h = sym (set_of_one n j h) ∙ set_of_cong n (λ b _. eqb_same b j j b sym sym)
-
-pub back_set : (n i k : ℕ) → k ≤ i → set_of n (eqb (i - k)) ≡ set_of n (λ j. eqb (j + k) i)
-back_set n i k h = set_of_cong n (λ j _. eqb_same (i - k) j (j + k) i (λ e. omega (arith, e)) (λ e. omega (arith, e)))
-
--- ---- of a star, where i is not its centre
-pub star_is : (i j : ℕ) → (i ≡ 0 → ⊥) → eqb 0 j ≡ ((eqb i 0 || eqb j 0) && not (eqb i j))
-star_is i j p = sym (ap (λ (x : Bool). (x || eqb j 0) && not (eqb i j)) (ne_eqb i 0 p) ∙ centre j)
-  where
-    centre : (j : ℕ) → eqb j 0 && not (eqb i j) ≡ eqb 0 j
-    centre zero = ap not (ne_eqb i 0 p)
-    centre (suc j) = ap (λ (x : Bool). x && not (eqb i (suc j))) (eqb-suc-zero j) ∙ sym (eqb-zero-suc j)
 
 -- ---- where a ring closes
 pub closes : (n i j : ℕ) {a b : Bool} → 2 < n → eqb i 0 ≡ a → eqb (i + 1) n ≡ b → ltb 2 n && (first_and_last n i j || first_and_last n j i) ≡ (a && eqb (j + 1) n || b && eqb j 0)

@@ -10,7 +10,7 @@ use native.Mathlib.Nat.{not-suc-le-zero, le_of_suc-le-suc, le_refl, le_step, le_
 use native.Mathlib.Decide.{le_ind}
 use lib.ListN.{length, get_or}
 use lib.Pow.{pow-lt}
-use borrow.Author.Tests.{eq-eqb, eqb-true}
+use borrow.Author.Tests.{eq-eqb, eqb-true, not-true}
 use Rattle.network.specs.Graph.{has, any, linked, count}
 use Rattle.network.specs.Distance.{spread, reach, reaches, first_with, distance}
 use Rattle.network.proofs.Sets.{two, never, same, and_both, or_either, or_right, any_intro, any_elim, any_none, has_one, set_ext, count_le, count_lt}
@@ -113,7 +113,7 @@ module _ (rows : List ℕ) (n a : ℕ) where
         (λ e.
         let r = any_elim n f e in
         let s = and_both (not (has (reach rows n a k) r.0)) (has (reach rows n a (suc k)) r.0) r.2 in
-        (r.0, r.1, not_false (has (reach rows n a k) r.0) s.0, s.1))
+        (r.0, r.1, not-true (has (reach rows n a k) r.0) s.0, s.1))
         (λ e.
         absurd
         (ne
@@ -123,10 +123,6 @@ module _ (rows : List ℕ) (n a : ℕ) where
       where
         f : ℕ → Bool
         f j = not (has (reach rows n a k) j) && has (reach rows n a (suc k)) j
-
-        not_false : (b : Bool) → not b ≡ true → b ≡ false
-        not_false true e = sym e
-        not_false false e = refl
 
     -- k steps that each change the set leave more than k nodes in it, so k is below n
     pub growing : (k : ℕ) → ((m : ℕ) → m < k → reach rows n a (suc m) ≡ reach rows n a m → ⊥) → k < n

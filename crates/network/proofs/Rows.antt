@@ -1,9 +1,9 @@
 -- Rows that a loop copies, one place a turn.
 -- Assumes nothing.
-use mathlib.Core.Path.{◌≡◌, sym, ap, ◌∙◌, subst}
+use mathlib.Core.Path.{◌≡◌, sym, ap, ap₂, ◌∙◌, subst}
 use mathlib.Core.List.{List, [], ◌∷◌, ◌++◌, append_assoc}
 use Prim.Native.Nat.{ℕ, zero, suc, ◌+◌, ◌-◌, ◌≤◌, ◌<◌}
-use native.Mathlib.Nat.{le_of_lt, le_of_eq}
+use native.Mathlib.Nat.{le_of_lt, le_of_eq, le_refl}
 use native.Mathlib.Omega.{arith}
 use native.Mathlib.Numerals.{add-one}
 use lib.ListN.{length, get_or, set, take, drop, replicate, length-append, get_or-append}
@@ -38,6 +38,12 @@ unfolding widened
 get_d_widened rows n h i l =
     get_or-append (take n rows) (replicate (max_nodes - n) 0) 0 i (subst (λ (k : ℕ). i < k) (sym (length-take-le n rows h)) l)
     ∙ get_or-take n rows i 0 l
+
+-- the first n rows alone, as all of a list
+pub widened_take : (rows : List ℕ) (n : ℕ) → n ≤ length rows → widened (take n rows) (length (take n rows)) ≡ widened rows n
+unfolding widened
+widened_take rows n h =
+    ap₂ (λ (r : List ℕ) (k : ℕ). r ++ replicate (max_nodes - k) 0) (take_all (length (take n rows)) (take n rows) (le_refl _)) (length-take-le n rows h)
 
 pub length_widened : (rows : List ℕ) (n : ℕ) → n ≤ length rows → n ≤ length (widened rows n)
 unfolding widened

@@ -12,28 +12,13 @@ use lib.Pow.{pow_pos, pow_mono, pow-lt, split, high, low}
 use lib.Dec.{eqb}
 use borrow.Author.Tests.{eq-eqb, ne_eqb}
 use Rattle.random.proofs.Bits.{bit_low}
+pub use Rattle.std.proofs.lemmas.Bool.{cases_Bool as two, and_parts as and_both, or_cases as or_either, or_right}
 use Rattle.network.specs.Graph.{has, set_of, any, all, count}
 
 -- ---- Booleans
 
-pub two : (b : Bool) → (b ≡ true) ⊎ (b ≡ false)
-two true = inl refl
-two false = inr refl
-
 pub never {ℓ} : {A : Type ℓ} {b : Bool} → b ≡ true → b ≡ false → A
 never p q = absurd (true≢false (sym p ∙ q))
-
-pub and_both : (a b : Bool) → a && b ≡ true → (a ≡ true) × (b ≡ true)
-and_both true b e = (refl, e)
-and_both false b e = never e refl
-
-pub or_either : (a b : Bool) → a || b ≡ true → (a ≡ true) ⊎ (b ≡ true)
-or_either true b e = inl refl
-or_either false b e = inr e
-
-pub or_right : (a b : Bool) → b ≡ true → a || b ≡ true
-or_right true b e = refl
-or_right false b e = e
 
 -- two tests that pass together are equal
 pub same : {a b : Bool} → (a ≡ true → b ≡ true) → (b ≡ true → a ≡ true) → a ≡ b

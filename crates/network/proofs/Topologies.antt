@@ -1,7 +1,7 @@
 -- The laws of the topologies: their rows pass the row check, and all but a tree without branches are joined.
 -- Assumes nothing.
 use mathlib.Core.Path.{◌≡◌, refl, sym, ap, ap₂, ◌∙◌, subst}
-use mathlib.Core.Bool.{Bool, true, false, not, ◌&&◌, ◌||◌}
+use mathlib.Core.Bool.{Bool, true, false, not, ◌&&◌, ◌||◌, and-false, or_comm}
 use mathlib.Core.Logic.{◌⊎◌, inl, inr, ⊎_elim}
 use mathlib.Core.List.{List}
 use Prim.Native.Nat.{ℕ, zero, suc, ◌+◌, ◌-◌, ◌*◌, ◌/◌, ◌%◌, ◌^◌, ◌≤◌, ◌<◌, zero-le, suc-le-suc}
@@ -24,16 +24,6 @@ use Rattle.network.proofs.Checks.{checked_question4}
 use Rattle.network.proofs.Distances.{joins, turned, distance_bound}
 
 -- ---- links are symmetric
-or_comm : (a b : Bool) → a || b ≡ b || a
-or_comm true true = refl
-or_comm true false = refl
-or_comm false true = refl
-or_comm false false = refl
-
-and_false : (a : Bool) → a && false ≡ false
-and_false true = refl
-and_false false = refl
-
 eqb_comm : (x y : ℕ) → eqb x y ≡ eqb y x
 eqb_comm x y = same (λ e. eq-eqb y x (sym (eqb-true x y e))) (λ e. eq-eqb x y (sym (eqb-true y x e)))
 
@@ -64,10 +54,10 @@ child_self b i =
 pub links_self : (t : Topology) (n i : ℕ) → linked_in t n i i ≡ false
 links_self FullMesh n i = ap not (eq-eqb i i refl)
 links_self Line n i = beside_self i
-links_self Star n i = ap (λ (b : Bool). (eqb i 0 || eqb i 0) && not b) (eq-eqb i i refl) ∙ and_false (eqb i 0 || eqb i 0)
+links_self Star n i = ap (λ (b : Bool). (eqb i 0 || eqb i 0) && not b) (eq-eqb i i refl) ∙ and-false (eqb i 0 || eqb i 0)
 links_self (Grid c) n i =
     ap₂ (λ (x y : Bool). eqb (i / c) (i / c) && x || eqb (i % c) (i % c) && y) (beside_self (i % c)) (beside_self (i / c))
-    ∙ ap₂ ◌||◌ (and_false (eqb (i / c) (i / c))) (and_false (eqb (i % c) (i % c)))
+    ∙ ap₂ ◌||◌ (and-false (eqb (i / c) (i / c))) (and-false (eqb (i % c) (i % c)))
 links_self Ring n i = ap₂ ◌||◌ (beside_self i) (closed (two (ltb 2 n)))
   where
     closed : (ltb 2 n ≡ true) ⊎ (ltb 2 n ≡ false) → ltb 2 n && (first_and_last n i i || first_and_last n i i) ≡ false
@@ -76,7 +66,7 @@ links_self Ring n i = ap₂ ◌||◌ (beside_self i) (closed (two (ltb 2 n)))
         let h = ltb-true 2 n e in
         let q : first_and_last n i i ≡ false =
         ⊎_elim (λ p. let r = and_both (eqb i 0) (eqb (i + 1) n) p in let z = eqb-true i 0 r.0 in let w = eqb-true (i + 1) n r.1 in absurd (omega arith)) (λ p. p) (two (first_and_last n i i)) in
-        ap (λ (b : Bool). ltb 2 n && (b || b)) q ∙ and_false (ltb 2 n)
+        ap (λ (b : Bool). ltb 2 n && (b || b)) q ∙ and-false (ltb 2 n)
 links_self (Tree b) n i = ap₂ ◌||◌ (child_self b i) (child_self b i)
 
 -- ---- the rows hold the links, and pass the row check

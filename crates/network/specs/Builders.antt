@@ -40,13 +40,6 @@ branching (Tree b) = b
 abbrev pub Sized : Topology → Type 0
 Sized t = ((0 < columns t) × (columns t ≤ max_nodes)) × (branching t ≤ max_branching)
 
--- Node i of n in a grid of c columns.
-pub record InGrid (c n i : ℕ) : Type 0 where
-  pub column : 0 < c
-  pub fits : c ≤ max_nodes
-  pub few : n ≤ max_nodes
-  pub node : i < n
-
 -- what the builders need of a topology before question 3 is asked of its second number
 pub record Askable (t : Topology) (second most : ℕ) : Type 0 where
   pub column : 0 < columns t

@@ -7,13 +7,12 @@ use crate::members::members_of;
 use crate::units::NodeId;
 use config::limits::{MAX_NODES, SET_BITS};
 
-// Whether node j is in the set.
+// Whether the set has this number, a node's or a term's.
 #[tactic(auto, unfolding(crate::specs::Graph::has))]
-pub fn has(set: u64, j: NodeId) -> bool
-    requires { j.0 < set_bits }
-    ensures { result ≡ has set j.0 }
+pub fn has(set: u64, at: usize) -> bool
+    requires { at < set_bits }
+    ensures { result ≡ has set at }
 {
-    let at = j.0;
     (set >> at) % 2 == 1
 }
 
@@ -25,20 +24,23 @@ pub fn full_set(n: usize) -> u64
     if n < SET_BITS { (1 << n) - 1 } else { u64::MAX }
 }
 
-// A graph as a run takes it: the rows as sets of 64 bits, and empty ones from the number of nodes on.
+// A graph as a run takes it: the rows as sets of 64 bits, and empty ones from the number of nodes on. There is no heap, so the
+// rows are an array with the number beside it. No ghost field holds what methods here and in distance.rt ask for, `nodes ≤
+// max_nodes` and `Checked rows nodes`: the definitions give a graph of any numbers and refuse it then, as `unless (first_no ..)
+// (graph_as t n)`, so they have no proof for it.
 #[derive(Clone, Copy)]
 pub struct Graph {
     pub nodes: usize,
     pub rows: [u64; MAX_NODES],
 }
 
-// The first n rows, as `checked_graph` is given them, as 64-bit sets; the other places are empty.
-pub fn widen(rows: &[u32], n: usize) -> [u64; MAX_NODES]
-    requires { (n ≤ max_nodes) × (n ≤ length rows.now) }
-    ensures { result ≡ widened rows.now n }
+// The rows as 64-bit sets; the other places are empty.
+pub fn widen(rows: &[u32]) -> [u64; MAX_NODES]
+    requires { length rows.now ≤ max_nodes }
+    ensures { result ≡ widened rows.now (length rows.now) }
 {
     let mut wide = [0u64; MAX_NODES];
-    for (i, &row) in rows[..n].iter().enumerate() {
+    for (i, &row) in rows.iter().enumerate() {
         wide[i] = row as u64;
     }
     wide
@@ -51,7 +53,7 @@ impl Graph {
         ensures { result ≡ backed self.now.rows self.now.nodes i.0 }
     {
         for j in members_of(self.rows[i.0]) {
-            if !has(self.rows[j], i) {
+            if !has(self.rows[j], i.0) {
                 return false;
             }
         }
@@ -67,7 +69,7 @@ impl Graph {
         if full_set(self.nodes) < set {
             return false;
         }
-        !has(set, i) & self.backed(i)
+        !has(set, i.0) & self.backed(i)
     }
 
     // Whether the rows have no bit at or above the number of nodes, no own bit, and j in i exactly when i in j.

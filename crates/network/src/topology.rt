@@ -1,5 +1,5 @@
 // The rows of a topology, after the builders of ctsim's network.rs, and rows that are given.
-ghost use Rattle.std.specs.Prelude.{◌≡◌, List, Result, ◌++◌, ℕ, ◌^◌, ◌≤◌, ◌<◌, length, get_or, take, drop};
+ghost use Rattle.std.specs.Prelude.{◌≡◌, List, Result, ◌++◌, ℕ, ◌^◌, ◌≤◌, ◌<◌, length, get_or, drop};
 ghost use Rattle.config.specs.Limits.{max_nodes};
 ghost use Rattle.config.specs.declared.refusal.Refusal.{Refusal};
 ghost use Rattle.network.specs.Graph.{widened};
@@ -7,9 +7,8 @@ ghost use Rattle.network.specs.Topology.{topology_rows, built_rows, built_graph,
 ghost use Rattle.network.specs.Builders.{asked_graph, Sized, Askable};
 
 use crate::graph::{Graph, widen};
-use crate::neighbours::row;
+use crate::neighbours::Place;
 use crate::questions::lies_in;
-use crate::units::NodeId;
 use config::limits::{MAX_BRANCHING, MAX_NODES, MIN_NODES};
 use config::refusal::Refusal;
 
@@ -32,7 +31,7 @@ fn topology_rows(t: Topology, n: usize) -> [u64; MAX_NODES]
     let mut wide = [0u64; MAX_NODES];
     // By the node's number, which the topology's rule is about.
     for i in 0..n {
-        wide[i] = row(t, n, NodeId(i));
+        wide[i] = Place { nodes: n, at: i }.row(t);
     }
     wide
 }
@@ -65,8 +64,8 @@ fn grid(rows: u64, columns: u64) -> Result<Graph, Refusal>
     asked(Topology::Grid(columns as usize), rows * columns, 0, 0)
 }
 
-// The topology with that number, by the three numbers that C and a line give. `first` is the number of nodes, for a grid of rows, and `second` a grid's columns or a
-// tree's branching factor.
+// The topology with that number, by the three numbers that C and a line give. `first` is the number of nodes, for a grid of
+// rows, and `second` a grid's columns or a tree's branching factor.
 pub fn build_graph(topology: u64, first: u64, second: u64) -> Result<Graph, Refusal>
     ensures { result ≡ built_graph topology first second }
 {
@@ -86,7 +85,8 @@ pub fn build_graph(topology: u64, first: u64, second: u64) -> Result<Graph, Refu
     }
 }
 
-// The graph of n nodes with these rows, by the slice and the number that C and a line give, where there are 2 to 32 nodes (2) and the first n rows are right (4).
+// The graph of n nodes with these rows, by the slice and the number that C and a line give, where there are 2 to 32 nodes (2)
+// and the first n rows are right (4).
 pub fn checked_graph(rows: &[u32], n: u64) -> Result<Graph, Refusal>
     ensures { result ≡ checked_graph rows.now n }
 {
@@ -99,7 +99,7 @@ pub fn checked_graph(rows: &[u32], n: u64) -> Result<Graph, Refusal>
     }
     let graph = Graph {
         nodes,
-        rows: widen(rows, nodes),
+        rows: widen(&rows[..nodes]),
     };
     if !graph.rows_right() {
         return Err(Refusal::WrongRows);
@@ -107,12 +107,12 @@ pub fn checked_graph(rows: &[u32], n: u64) -> Result<Graph, Refusal>
     Ok(graph)
 }
 
-// Writes the first n rows, which have no bit from 32 on, to the first n places.
-fn copy_rows(wide: &[u64], n: usize, out: &mut [u32])
-    requires { ((n ≤ length wide.now) × (n ≤ length out.old)) × ((i : ℕ) → i < n → get_or wide.now i 0 < 2 ^ 32) }
-    ensures { out.new ≡ take n wide.now ++ drop n out.old }
+// Writes the rows, which have no bit from 32 on, to the first places.
+fn copy_rows(wide: &[u64], out: &mut [u32])
+    requires { (length wide.now ≤ length out.old) × ((i : ℕ) → i < length wide.now → get_or wide.now i 0 < 2 ^ 32) }
+    ensures { out.new ≡ wide.now ++ drop (length wide.now) out.old }
 {
-    for (i, &row) in wide[..n].iter().enumerate() {
+    for (i, &row) in wide.iter().enumerate() {
         out[i] = row as u32;
     }
 }
@@ -127,6 +127,6 @@ pub fn rows(topology: u64, first: u64, second: u64, out: &mut [u32]) -> Result<u
     if out.len() < n {
         return Err(Refusal::ShortBuffers);
     }
-    copy_rows(&graph.rows, n, out);
+    copy_rows(&graph.rows[..n], out);
     Ok(n)
 }

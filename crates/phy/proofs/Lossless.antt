@@ -16,7 +16,6 @@ use Rattle.random.proofs.Tables.{get_d_tabulate}
 use Rattle.network.proofs.Distances.{distance_self, distance_zero, distance_link, distance_before, joined_distance, eccentricity_bound, eccentricity_each}
 use Rattle.phy.specs.declared.node.Node.{Node}
 use Rattle.phy.specs.declared.node.NodeState.{NodeState}
-use Rattle.std.specs.Prelude.{Some}
 use Rattle.phy.specs.declared.packet.Packet.{Packet}
 use Rattle.std.specs.Prelude.{Some, None}
 use Rattle.phy.specs.Packets.{payload_is}

@@ -1,9 +1,9 @@
 -- Sets of nodes in a word. Assumes nothing.
-use Prim.Native.Nat.{ℕ, zero, suc, ◌+◌, ◌*◌, ◌/◌, ◌%◌, ◌^◌, ◌≤◌, ◌<◌}
+use Prim.Native.Nat.{ℕ, zero, suc, ◌+◌, ◌*◌, ◌/◌, ◌%◌, ◌^◌, ◌<◌}
 use mathlib.Core.Path.{◌≡◌, refl, sym, ap, subst, ◌∙◌}
 use mathlib.Core.Bool.{Bool, true, false, cond, ◌&&◌, ◌||◌, and-false, or-false, or_comm}
 use mathlib.Core.Logic.{⊎_elim}
-use native.Mathlib.Nat.{mod-lt, not-suc-le-zero, le_of_suc-le-suc, eq-or-lt_of_le, add-zero}
+use native.Mathlib.Nat.{mod-lt, not-suc-le-zero, le_of_suc-le-suc}
 use native.Mathlib.Omega.{arith}
 use lib.Dec.{eqb}
 use lib.Bits.{bit_and, bit_or, and_shr, and_mod, and_lt, or_lt, or_disjoint}
@@ -73,15 +73,3 @@ module _ (w : ℕ) {s j : ℕ} (small : s < 2 ^ w) (in_word : j < w) where
 -- a set of nodes below n, by its nodes
 pub set_is : (n : ℕ) {s : ℕ} (f : ℕ → Bool) → s < 2 ^ n → ((j : ℕ) → j < n → has s j ≡ f j) → s ≡ set_of n f
 set_is n {s} f h e = sym (set_of_has n s h) ∙ set_of_cong n e
-
--- where no node from m to below t is so
-pub set_of_skip : (m t : ℕ) (f : ℕ → Bool) → m ≤ t → ((i : ℕ) → m ≤ i → i < t → f i ≡ false) → set_of t f ≡ set_of m f
-unfolding set_of
-set_of_skip m zero f l h = let e : 0 ≡ m = omega (arith, l) in ap (λ (x : ℕ). set_of x f) e
-set_of_skip m (suc t) f l h =
-    ⊎_elim (λ e. ap (λ (x : ℕ). set_of x f) (sym e))
-    (λ b.
-    ap (λ (x : Bool). set_of t f + cond x (2 ^ t) 0) (h t (omega (arith, b)) (omega arith))
-    ∙ add-zero (set_of t f)
-    ∙ set_of_skip m t f (omega (arith, b)) (λ i u v. h i u (omega (arith, v))))
-    (eq-or-lt_of_le l)

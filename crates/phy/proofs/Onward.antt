@@ -41,7 +41,7 @@ module _ {g : Settings} {rows : List ℕ} {longest : ℕ} {x₀ : Radios} {t₀ 
         here = stepped.stands met.heard met.source met.first met.standing met.here;
       }
 
-  pub onward : (r.flooding ≡ 0 → ⊥) → length t'.snapshots ≡ length t.snapshots → {less p : ℕ} → less ≡ more - 1 → p ≡ place_after g.repeats place 1 → Onward g rows longest x₀ t₀ r t' less p
+  pub onward : (r.awake.flooding ≡ 0 → ⊥) → length t'.snapshots ≡ length t.snapshots → {less p : ℕ} → less ≡ more - 1 → p ≡ place_after g.repeats place 1 → Onward g rows longest x₀ t₀ r t' less p
   onward floods same {less} {p} l e =
       subst⁻¹ (λ (k : ℕ). Onward g rows longest x₀ t₀ r t' k p) l
       (subst⁻¹ (Onward g rows longest x₀ t₀ r t' (more - 1)) e
@@ -56,11 +56,11 @@ module _ {g : Settings} {rows : List ℕ} {longest : ℕ} {x₀ : Radios} {t₀ 
             let setup = as_setup g rows heard in
             let old = o.here heard source b₀ s₀ here₀ in
             let new = stepped.stands heard (o.source heard source) b₀ old.0 old.1 in
-            let goes = somebody g.nodes (slot_step setup old.0).nodes r.flooding new.stands.flooding floods in
+            let goes = somebody g.nodes (slot_step setup old.0).nodes r.awake.flooding new.stands.flooding floods in
             (slot_step setup old.0, new, sym (slots_more setup (more - 1) old.0 goes) ∙ ap (λ (k : ℕ). slots setup k old.0) (sym one) ∙ old.2);
       }))
 
-  pub ends : r.flooding ≡ 0 → Slotted g rows longest x₀ t₀ r t'
+  pub ends : r.awake.flooding ≡ 0 → Slotted g rows longest x₀ t₀ r t'
   ends quiet =
       record {
         sound = stepped.sound;
@@ -72,6 +72,6 @@ module _ {g : Settings} {rows : List ℕ} {longest : ℕ} {x₀ : Radios} {t₀ 
             let setup = as_setup g rows heard in
             let old = o.here heard source b₀ s₀ here₀ in
             let new = (stepped.stands heard (o.source heard source) b₀ old.0 old.1).stands in
-            let last = nobody g.nodes (slot_step setup old.0).nodes r.flooding new.flooding quiet in
+            let last = nobody g.nodes (slot_step setup old.0).nodes r.awake.flooding new.flooding quiet in
             subst (Stands g.nodes r b₀ t'.snapshots) (sym (slots_last setup (more - 1) old.0 last) ∙ ap (λ (k : ℕ). slots setup k old.0) (sym one) ∙ old.2) new;
       }

@@ -1,7 +1,7 @@
 -- Who hears in a slot in which no attempt is lost. Assumes nothing.
 use Prim.Native.Nat.{ℕ, zero, suc, ◌^◌, ◌≤◌, ◌<◌}
 use mathlib.Core.Path.{◌≡◌, refl, sym, ap, ap₂, subst, ◌∙◌}
-use mathlib.Core.Bool.{Bool, true, false, cond, ◌&&◌, ◌||◌, or-false}
+use mathlib.Core.Bool.{Bool, true, false, cond, ◌&&◌, ◌||◌, or-false, or_assoc}
 use mathlib.Core.List.{List, [], ◌∷◌, ◌++◌}
 use mathlib.Core.Logic.{⊎_elim}
 use native.Mathlib.Nat.{le_refl, eq-or-lt_of_le, le_of_suc-le-suc}
@@ -27,10 +27,6 @@ in_append : (j : ℕ) (xs ys : List ℕ) → is_in j (xs ++ ys) ≡ is_in j xs |
 unfolding is_in
 in_append j [] ys = refl
 in_append j (x ∷ xs) ys = ap (λ (b : Bool). eqb j x || b) (in_append j xs ys) ∙ sym (or_assoc (eqb j x) (is_in j xs) (is_in j ys))
-  where
-    or_assoc : (a b c : Bool) → (a || b) || c ≡ a || (b || c)
-    or_assoc true b c = refl
-    or_assoc false b c = refl
 
 -- the numbers below n that are so
 in_among : (n : ℕ) (f : ℕ → Bool) (j : ℕ) → is_in j (among n f) ≡ true → (j < n) × (f j ≡ true)

@@ -150,7 +150,7 @@ opens g first packet {x} {y} {e₀} {e} {e'} {w} {b₀} {b} {s} can room emptied
 -- ---- a round ends
 module _ (n first : ℕ) (packet : Packet) (x : Radios) (b₀ b : List ℕ) (s : Standing) (st : Stands n x b₀ b s) where
   abbrev awake : ℕ
-  awake = bit_or x.listening x.flooding
+  awake = bit_or x.awake.listening x.awake.flooding
 
   abbrev given : List Node
   given = delivered n packet s.nodes
@@ -164,7 +164,7 @@ module _ (n first : ℕ) (packet : Packet) (x : Radios) (b₀ b : List ℕ) (s :
 
   asleep : (j : ℕ) → j < n → not (has awake j) ≡ is_sleeping (at s.nodes j)
   asleep j p =
-      ap not (has_or x.listening x.flooding j ∙ ap₂ ◌||◌ (ap (λ (k : ℕ). has k j) st.listening ∙ has_set_of n _ j p) (ap (λ (k : ℕ). has k j) st.flooding ∙ has_set_of n _ j p))
+      ap not (has_or x.awake.listening x.awake.flooding j ∙ ap₂ ◌||◌ (ap (λ (k : ℕ). has k j) st.listening ∙ has_set_of n _ j p) (ap (λ (k : ℕ). has k j) st.flooding ∙ has_set_of n _ j p))
       ∙ three (at s.nodes j).state
     where
       three : (q : NodeState) → not (listens q || floods q) ≡ sleeps q

@@ -1,10 +1,10 @@
 -- Snapshots: where they are stored, and when they are due. Assumes nothing.
-use Prim.Native.Nat.{ℕ, zero, suc, ◌+◌, ◌-◌, ◌*◌, ◌^◌, ◌≤◌, ◌<◌}
+use Prim.Native.Nat.{ℕ, zero, suc, ◌+◌, ◌-◌, ◌*◌, ◌≤◌, ◌<◌}
 use mathlib.Core.Path.{◌≡◌, refl, sym, ap, ap₂, subst, subst⁻¹, ◌∙◌}
 use mathlib.Core.Bool.{true, false}
 use mathlib.Core.List.{List, [], ◌∷◌, ◌++◌, flatten, append_assoc, append-nil}
 use mathlib.Core.Logic.{⊎_elim}
-use native.Mathlib.Nat.{add-zero, suc-mul, zero-mul, le-mul_of_pos_right}
+use native.Mathlib.Nat.{add-zero, suc-mul}
 use native.Mathlib.Numerals.{add-one}
 use native.Mathlib.Omega.{arith}
 use lib.Dec.{leb}
@@ -116,15 +116,6 @@ scheduled_one interval shot {first} {next} {count} {b₀} {b} {b'} {x} five h r 
       stored = stored_more b₀ (drop first x.taken) (shot x.next) five' r.stored r.whole s' ∙ ap (snapshots_with b₀) (sym more);
       whole = subst⁻¹ (λ (l : List (List ℕ)). length (flatten l) ≡ snapshot_size * length l) more (whole_more b₀ (drop first x.taken) (shot x.next) five' r.stored r.whole);
     }
-
--- the next snapshot slot is a multiple of the interval, so it moves only where there is room
-pub next_fits : (count interval slot : ℕ) → count * interval ≤ slot → 1 ≤ interval → interval < 2 ^ 64 → slot < 2 ^ 62
-    → (count * interval + interval < 2 ^ 64) × (count ≤ slot)
-next_fits zero interval slot h p f s = (omega (arith, zero-mul interval), omega arith)
-next_fits (suc k) interval slot h p f s =
-    let step = suc-mul k interval in
-    let least = le-mul_of_pos_right (suc k) p in
-    (omega (arith, step), omega (arith, least))
 
 pub one_more : (count interval : ℕ) → count * interval + interval ≡ (count + 1) * interval
 one_more count interval = sym (ap (λ (k : ℕ). k * interval) (add-one count) ∙ suc-mul count interval)

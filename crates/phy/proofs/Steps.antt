@@ -222,7 +222,7 @@ module _ (n repeats reached : ℕ) (nodes : List Node) (x : Awake) (e : List ℕ
 
 -- ---- the sums are nodes times slots, so that one slot more has room
 module _ (n : ℕ) {x : Radios} {b₀ b : List ℕ} {s : Standing} {seen : Shown} {progress : ℕ} (few : n ≤ max_nodes) (early : x.slot.0 < count_bound) (st : Stands n x b₀ b s)
-    (seen-is : seen ≡ shown_of n progress (ones x.listening) (ones x.flooding)) where
+    (seen-is : seen ≡ shown_of n progress x.awake) where
   sums : x.slots_listen + x.slots_flood + x.slots_sleep ≡ n * x.slot.0
   sums = omega (arith, st.listens, st.floods, st.sleeps, all_slots_lem s.nodes n x.slot.0 (λ j p. st.counted j p ∙ sym st.slot))
 
@@ -231,10 +231,10 @@ module _ (n : ℕ) {x : Radios} {b₀ b : List ℕ} {s : Standing} {seen : Shown
 
   shown_few : (seen.listening ≤ max_nodes) × (seen.flooding ≤ max_nodes) × (seen.sleeping ≤ max_nodes)
   shown_few =
-      let l : seen.listening ≡ ones x.listening = ap (λ (y : Shown). y.listening) seen-is in
-      let f : seen.flooding ≡ ones x.flooding = ap (λ (y : Shown). y.flooding) seen-is in
-      let z : seen.sleeping ≡ n - ones x.listening - ones x.flooding = ap (λ (y : Shown). y.sleeping) seen-is in
-      let all = awake_few n s.nodes x.listening x.flooding st.listening st.flooding in
+      let l : seen.listening ≡ ones x.awake.listening = ap (λ (y : Shown). y.listening) seen-is in
+      let f : seen.flooding ≡ ones x.awake.flooding = ap (λ (y : Shown). y.flooding) seen-is in
+      let z : seen.sleeping ≡ n - ones x.awake.listening - ones x.awake.flooding = ap (λ (y : Shown). y.sleeping) seen-is in
+      let all = awake_few n s.nodes x.awake st.listening st.flooding in
       (omega (arith, l, all, few), omega (arith, f, all, few), omega (arith, z, few))
 
   pub few_slots : (x.slots_listen + seen.listening < 2 ^ 64) × (x.slots_flood + seen.flooding < 2 ^ 64) × (x.slots_sleep + seen.sleeping < 2 ^ 64)
@@ -242,12 +242,12 @@ module _ (n : ℕ) {x : Radios} {b₀ b : List ℕ} {s : Standing} {seen : Shown
 
 -- ---- a whole slot: what its parts gave leads where the definitions lead
 module _ (g : Settings) (rows : List ℕ) (heard : ℕ → Bool) (p : ℕ) (x : Radios) (t : Tables) (b₀ : List ℕ) (s : Standing) (here : InSlot g p x t b₀ s)
-    (seen : Shown) (seen-is : seen ≡ shown_of g.nodes g.progress (ones x.listening) (ones x.flooding))
+    (seen : Shown) (seen-is : seen ≡ shown_of g.nodes g.progress x.awake)
     (taken : Schedule) (b' : List ℕ)
     (takes : TakesDue g.interval x.slot.0 seen x.first_stored (record { next = record { 0 = x.next_snapshot.0 }; count = x.snapshots }) t.snapshots taken b')
     (tried : Tried)
-    (tried-is : tries_of tried ≡ attempt_all heard (record { attempts = x.attempts; successes = x.successes; reached = 0 }) (receivers_of rows g.nodes x.flooding x.listening))
-    (r : Awake) (e' : List ℕ) (advances : Advances p tried.reached (record { listening = x.listening; flooding = x.flooding }) t.queue r e') where
+    (tried-is : tries_of tried ≡ attempt_all heard (record { attempts = x.attempts; successes = x.successes; reached = 0 }) (receivers_of rows g.nodes x.awake))
+    (r : Awake) (e' : List ℕ) (advances : Advances p tried.reached x.awake t.queue r e') where
   abbrev n : ℕ
   n = g.nodes
 
@@ -261,12 +261,12 @@ module _ (g : Settings) (rows : List ℕ) (heard : ℕ → Bool) (p : ℕ) (x : 
   counted = ticked n s.nodes
 
   abbrev before : Awake
-  before = record { listening = x.listening; flooding = x.flooding }
+  before = x.awake
 
   tries : tries_of tried ≡ tries_in setup counted s.attempts s.successes
   tries =
       tried-is
-      ∙ tries_are n s.nodes x.listening x.flooding st.listening st.flooding setup x.attempts x.successes refl
+      ∙ tries_are n s.nodes x.awake st.listening st.flooding setup x.attempts x.successes refl
       ∙ ap₂ (tries_in setup counted) st.attempts st.successes
 
   abbrev shots : Shots
@@ -275,7 +275,7 @@ module _ (g : Settings) (rows : List ℕ) (heard : ℕ → Bool) (p : ℕ) (x : 
   same_shots : shots ≡ take_while g.interval (snapshot n g.progress counted) s.slot (suc s.slot) s.shots
   same_shots =
       ap₂ (λ (f : ℕ → List ℕ) (k : ℕ). take_while g.interval f k (suc k) s.shots)
-      (ap shot_of seen-is ∙ shot_is n s.nodes x.listening x.flooding st.listening st.flooding g.progress) st.slot
+      (ap shot_of seen-is ∙ shot_is n s.nodes x.awake st.listening st.flooding g.progress) st.slot
 
   abbrev there : Standing
   there =
@@ -307,16 +307,15 @@ module _ (g : Settings) (rows : List ℕ) (heard : ℕ → Bool) (p : ℕ) (x : 
 
   sleep_count : seen.sleeping ≡ count n (λ (j : ℕ). is_sleeping (at s.nodes j))
   sleep_count =
-      let total : seen.sleeping ≡ n - ones x.listening - ones x.flooding = ap (λ (y : Shown). y.sleeping) seen-is in
-      let a : ones x.listening ≡ count n (λ (j : ℕ). is_listening (at s.nodes j)) = ap ones st.listening ∙ ones_set_of n _ in
-      let f : ones x.flooding ≡ count n (λ (j : ℕ). is_flooding (at s.nodes j)) = ap ones st.flooding ∙ ones_set_of n _ in
+      let total : seen.sleeping ≡ n - ones x.awake.listening - ones x.awake.flooding = ap (λ (y : Shown). y.sleeping) seen-is in
+      let a : ones x.awake.listening ≡ count n (λ (j : ℕ). is_listening (at s.nodes j)) = ap ones st.listening ∙ ones_set_of n _ in
+      let f : ones x.awake.flooding ≡ count n (λ (j : ℕ). is_flooding (at s.nodes j)) = ap ones st.flooding ∙ ones_set_of n _ in
       omega (arith, total, a, f, three_states n s.nodes)
 
   abbrev after : Radios
   after =
       record {
-        listening = r.listening;
-        flooding = r.flooding;
+        awake = r;
         slots_listen = x.slots_listen + seen.listening;
         slots_flood = x.slots_flood + seen.flooding;
         slots_sleep = x.slots_sleep + seen.sleeping;

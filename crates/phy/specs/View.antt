@@ -2,6 +2,7 @@
 use Rattle.std.specs.Prelude.{ℕ, suc, ◌+◌, ◌-◌, ◌*◌, ◌^◌, ◌≤◌, ◌<◌, Bool, true, cond, ◌&&◌, ◌≡◌, eqb, ltb, length, get_or, set, drop, Float}
 use mathlib.Core.List.{List, [], ◌∷◌, flatten}
 use Rattle.std.specs.Int.Bits.{bit_and, bit_or}
+use Rattle.std.specs.Int.Count.{ones}
 use Rattle.std.proofs.lemmas.List.Edits.{sets}
 use Rattle.config.specs.Limits.{max_nodes, max_repeats, snapshot_size, count_bound}
 use Rattle.network.specs.Graph.{has, set_of, all}
@@ -48,15 +49,15 @@ pub record TriedOn (rate : Float) (k : ℕ) (js : List ℕ) (t : Tried) (w : Str
   pub tried : (heard : ℕ → Bool) → Source rate heard t.attempts w → tries_of r ≡ attempt_all heard (tries_of t) js
   pub source : (heard : ℕ → Bool) → Source rate heard t.attempts w → Source rate heard r.attempts w'
 
--- the receivers of the nodes of a set among those of another
-abbrev pub receivers_of : List ℕ → ℕ → ℕ → ℕ → List ℕ
-receivers_of rows n flooding listening = receivers rows (has flooding) (has listening) n n
+-- the receivers of the nodes that flood among those that listen
+abbrev pub receivers_of : List ℕ → ℕ → Awake → List ℕ
+receivers_of rows n awake = receivers rows (has awake.flooding) (has awake.listening) n n
 
 -- a slot's attempts have room in the counters
-pub record CanTry (n listening flooding : ℕ) (t : Tried) : Type 0 where
+pub record CanTry (n : ℕ) (awake : Awake) (t : Tried) : Type 0 where
   pub few : n ≤ max_nodes
-  pub listeners : listening < 2 ^ n
-  pub flooders : flooding < 2 ^ n
+  pub listeners : awake.listening < 2 ^ n
+  pub flooders : awake.flooding < 2 ^ n
   pub attempts : t.attempts + slot_attempts < 2 ^ 64
   pub successes : t.successes + slot_attempts < 2 ^ 64
 
@@ -65,8 +66,10 @@ pub record CanTry (n listening flooding : ℕ) (t : Tried) : Type 0 where
 abbrev pub shot_of : Shown → ℕ → List ℕ
 shot_of x slot = slot ∷ x.progress ∷ x.listening ∷ x.flooding ∷ x.sleeping ∷ []
 
-abbrev pub shown_of : ℕ → ℕ → ℕ → ℕ → Shown
-shown_of n progress listening flooding =
+abbrev pub shown_of : ℕ → ℕ → Awake → Shown
+shown_of n progress awake =
+    let listening : ℕ = ones awake.listening in
+    let flooding : ℕ = ones awake.flooding in
     record { progress = progress; listening = listening; flooding = flooding; sleeping = n - listening - flooding }
 
 -- a snapshot is stored after `count` others, if it fits whole
@@ -116,8 +119,8 @@ pub record Queued (n repeats : ℕ) (e : List ℕ) (p : ℕ) (nodes : List Node)
 
 -- The code stands at x, with the snapshots b, where the definitions stand at s. Before the first that is stored the buffer was b₀.
 pub record Stands (n : ℕ) (x : Radios) (b₀ b : List ℕ) (s : Standing) : Type 0 where
-  pub listening : x.listening ≡ set_of n (λ (j : ℕ). is_listening (at s.nodes j))
-  pub flooding : x.flooding ≡ set_of n (λ (j : ℕ). is_flooding (at s.nodes j))
+  pub listening : x.awake.listening ≡ set_of n (λ (j : ℕ). is_listening (at s.nodes j))
+  pub flooding : x.awake.flooding ≡ set_of n (λ (j : ℕ). is_flooding (at s.nodes j))
   -- the slots of all nodes in each state
   pub listens : x.slots_listen ≡ sum_of (λ (v : Node). v.slots_listen) s.nodes n
   pub floods : x.slots_flood ≡ sum_of (λ (v : Node). v.slots_flood) s.nodes n
@@ -179,8 +182,7 @@ pub record Slotted (g : Settings) (rows : List ℕ) (longest : ℕ) (x : Radios)
 abbrev pub begun_flood : ℕ → ℕ → Radios → Radios
 begun_flood n first x =
     record {
-      listening = 2 ^ n - 1 - 2 ^ first;
-      flooding = 2 ^ first;
+      awake = record { listening = 2 ^ n - 1 - 2 ^ first; flooding = 2 ^ first };
       slots_listen = x.slots_listen;
       slots_flood = x.slots_flood;
       slots_sleep = x.slots_sleep;

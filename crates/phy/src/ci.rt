@@ -9,7 +9,7 @@ ghost use Rattle.phy.specs.Round.{length_limit};
 ghost use Rattle.phy.specs.View.{tables, Sound, Meets, Slotted, place_after};
 ghost use Rattle.phy.specs.View.{CanBegin, Begins, Emptied, CanFlood, Rounded};
 
-use super::slot::{QUEUE_SIZE, Radios, Settings, slot};
+use super::slot::{Awake, QUEUE_SIZE, Radios, Settings, slot};
 use config::limits::{LEAST_LENGTH, MAX_NODES};
 use network::graph::full_set;
 use network::units::NodeId;
@@ -45,11 +45,11 @@ fn begin_round(
     let own = 1u64 << first;
     let last = settings.repeats as usize - 1;
     queue[last] = own;
-    Radios {
+    let awake = Awake {
         listening: full_set(settings.nodes) - own,
         flooding: own,
-        ..x
-    }
+    };
+    Radios { awake, ..x }
 }
 
 // The place after this one in a queue of so many.
@@ -62,7 +62,8 @@ fn next_place(place: usize, repeats: u32) -> usize
     if next < all { next } else { next - all }
 }
 
-// The slots of a round, up to the limit or until nobody floods. The queue begins at place 0.
+// The slots of a round, up to the limit or until nobody floods. The queue is lent for a run and its place begins at 0 in each
+// round, so the two are apart.
 fn slots(
     settings: Settings,
     rows: &[u64; MAX_NODES],
@@ -83,7 +84,7 @@ fn slots(
     // So many slots, or fewer: nothing is gone through.
     for done in 0..longest {
         x = slot(settings, rows, x, queue, place, stream, snapshots);
-        if x.flooding == 0 {
+        if x.awake.flooding == 0 {
             return x;
         }
         place = next_place(place, settings.repeats);
@@ -127,7 +128,7 @@ pub fn flood_identical_round(
     empty_queue(queue, settings.repeats as usize);
     let x = begin_round(settings, initiator, flood, queue);
     let ended = slots(settings, rows, longest, x, queue, stream, snapshots);
-    let awake = ended.listening | ended.flooding;
+    let awake = ended.awake.listening | ended.awake.flooding;
     Round {
         flood: ended,
         part: participants(settings.nodes, initiator, awake),

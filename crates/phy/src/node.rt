@@ -42,14 +42,10 @@ pub fn new() -> Node
 pub fn reset_round(node: Node) -> Node
     ensures { result ≡ Spec.reset_round node }
 {
-    let payload = node.payload;
     Node {
         state: NodeState::Listen,
         flood_remaining: 0,
-        payload,
-        slots_listen: node.slots_listen,
-        slots_flood: node.slots_flood,
-        slots_sleep: node.slots_sleep,
+        ..node
     }
 }
 

@@ -43,13 +43,12 @@ pub struct Tried {
     pub reached: u64,
 }
 
-// Where the radios of a run stand: the sets of the nodes that listen and that flood, and the slots that all
-// nodes have spent in each state. Of the snapshots, those from the number `first_stored` on go into a lent
-// slice. The stream of the draws stands in a lent table.
+// Where the radios of a run stand: the nodes that are awake, and the slots that all nodes have spent in each
+// state. Of the snapshots, those from the number `first_stored` on go into a lent slice. The stream of the
+// draws is lent.
 #[derive(Clone, Copy)]
 pub struct Radios {
-    pub listening: u64,
-    pub flooding: u64,
+    pub awake: Awake,
     pub slots_listen: u64,
     pub slots_flood: u64,
     pub slots_sleep: u64,
@@ -76,8 +75,7 @@ fn attempt(j: NodeId, rate: f64, stream: &mut Stream, t: Tried) -> Tried
     }
     Tried {
         attempts: t.attempts + 1,
-        successes: t.successes,
-        reached: t.reached,
+        ..t
     }
 }
 
@@ -97,15 +95,18 @@ fn attempts_at(set: u64, rate: f64, stream: &mut Stream, t: Tried) -> Tried
 fn attempts(
     rows: &[u64; MAX_NODES],
     n: usize,
-    listening: u64,
-    flooding: u64,
+    awake: Awake,
     rate: f64,
     stream: &mut Stream,
     t: Tried,
 ) -> Tried
-    requires { CanTry n listening flooding t }
-    ensures { TriedOn rate (set_bits * n) (receivers_of rows.now n flooding listening) t stream.old result stream.new }
+    requires { CanTry n awake t }
+    ensures { TriedOn rate (set_bits * n) (receivers_of rows.now n awake) t stream.old result stream.new }
 {
+    let Awake {
+        listening,
+        flooding,
+    } = awake;
     if listening == 0 {
         return t;
     }
@@ -132,21 +133,22 @@ fn advance(queue: &mut [u64; QUEUE_SIZE], place: usize, awake: Awake, reached: u
 }
 
 // What a snapshot shows of the nodes: those that neither listen nor flood sleep.
-fn shown(n: usize, progress: u64, listening: u64, flooding: u64) -> Shown
-    requires { ones listening + ones flooding ≤ n }
-    ensures { result ≡ shown_of n progress (ones listening) (ones flooding) }
+fn shown(n: usize, progress: u64, awake: Awake) -> Shown
+    requires { ones awake.listening + ones awake.flooding ≤ n }
+    ensures { result ≡ shown_of n progress awake }
 {
-    let listen = u64::count_ones(listening) as u64;
-    let flood = u64::count_ones(flooding) as u64;
+    let listening = u64::count_ones(awake.listening) as u64;
+    let flooding = u64::count_ones(awake.flooding) as u64;
     Shown {
         progress,
-        listening: listen,
-        flooding: flood,
-        sleeping: n as u64 - listen - flood,
+        listening,
+        flooding,
+        sleeping: n as u64 - listening - flooding,
     }
 }
 
-// One slot: snapshots, attempts, and what follows for each node.
+// One slot: snapshots, attempts, and what follows for each node. What it is lent is apart here and in ci.rt: in a
+// struct of lent parts each contract would need a clause more, that they are still those, as `SameTables` of a run.
 pub fn slot(
     settings: Settings,
     rows: &[u64; MAX_NODES],
@@ -161,12 +163,10 @@ pub fn slot(
         (tables queue.old stream.old snapshots.old)
         result (tables queue.new stream.new snapshots.new) }
 {
-    let n = settings.nodes;
     let this = x.slot;
-    let seen = shown(n, settings.progress, x.listening, x.flooding);
-    let next = x.next_snapshot;
+    let seen = shown(settings.nodes, settings.progress, x.awake);
     let due = Schedule {
-        next,
+        next: x.next_snapshot,
         count: x.snapshots,
     };
     let first = x.first_stored;
@@ -177,24 +177,18 @@ pub fn slot(
         reached: 0,
     };
     let rate = settings.rate;
-    let tried = attempts(rows, n, x.listening, x.flooding, rate, stream, untried);
-    let before = Awake {
-        listening: x.listening,
-        flooding: x.flooding,
-    };
-    let next_snapshot = taken.next;
-    let awake = advance(queue, place, before, tried.reached);
+    let tried = attempts(rows, settings.nodes, x.awake, rate, stream, untried);
+    let awake = advance(queue, place, x.awake, tried.reached);
     Radios {
-        listening: awake.listening,
-        flooding: awake.flooding,
+        awake,
         slots_listen: x.slots_listen + seen.listening,
         slots_flood: x.slots_flood + seen.flooding,
         slots_sleep: x.slots_sleep + seen.sleeping,
         attempts: tried.attempts,
         successes: tried.successes,
         slot: Slot(this.0 + 1),
-        next_snapshot,
+        next_snapshot: taken.next,
         snapshots: taken.count,
-        first_stored: first,
+        ..x
     }
 }

@@ -92,8 +92,13 @@ fn report_seeds(rt: &impl Print) -> io::Result<()> {
     )
 }
 
-fn main(rt: HostRuntime) -> io::Result<()> {
-    report(&rt, "quarter round", quarter_round_words(), 4)?;
-    report_blocks(&rt)?;
-    report_seeds(&rt)
+fn print_all(rt: &impl Print) -> io::Result<()> {
+    report(rt, "quarter round", quarter_round_words(), 4)?;
+    report_blocks(rt)?;
+    report_seeds(rt)
+}
+
+// A failed write ends it, and is told by nothing else: what is printed is compared.
+fn main(rt: HostRuntime) {
+    let _ = print_all(&rt);
 }

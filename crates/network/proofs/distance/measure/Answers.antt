@@ -1,7 +1,6 @@
 -- The rows that passed have the diameter of those that were given.
 use Rattle.std.proofs.Common.{sym, ap, ◌∙◌, Ok}
-use Rattle.std.proofs.lemmas.Result.{err_from_is_err_and}
-use Rattle.config.proofs.Unless.{still_refused, not_refused}
+use Rattle.config.proofs.Unless.{still_refused, not_refused, goes_up}
 use Rattle.network.specs.Graph.{widened}
 use Rattle.network.specs.Questions.{first_no, rows_questions}
 use Rattle.network.specs.Topology.{graph_of}
@@ -16,8 +15,8 @@ pub returns-in_err-checked_graph : goal.returns-in_err-checked_graph
 unfolding measured
 returns-in_err-checked_graph c =
     let a = c.args in
-    let p = err_from_is_err_and c.from_residual.result c.from_residual.ensures.1 in
-    rw (p.1, p.2) (still_refused (graph_of a.rows.now a.n) (diameter a.rows.now a.n) (first_no (rows_questions a.rows.now a.n)) _ c.in_err-checked_graph.ensures)
+    goes_up _ c.from_residual.ensures.1
+    ∙ still_refused (graph_of a.rows.now a.n) (diameter a.rows.now a.n) (first_no (rows_questions a.rows.now a.n)) _ c.in_err-checked_graph.ensures
 
 pub diameter-requires : goal.diameter-requires
 diameter-requires c = let g = (checked_is c.args.rows.now c.args.n _ (sym c.in_ok-checked_graph.ensures)).2 in (g.few, g.checked)

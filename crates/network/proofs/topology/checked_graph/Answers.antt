@@ -3,7 +3,7 @@ use Rattle.std.proofs.Common.{◌≡◌, refl, sym, ap, ◌∙◌, Bool, ℕ, �
 use borrow.Author.Tests.{le-leb, lt-leb}
 use Rattle.network.specs.Graph.{rows_right, widened}
 use Rattle.network.specs.Questions.{question4}
-use Rattle.network.proofs.Rows.{get_d_widened}
+use Rattle.network.proofs.Rows.{get_d_widened, widened_take}
 use Rattle.network.proofs.Checks.{right_agree}
 use Rattle.network.proofs.topology.checked_graph.Goals as goal
 
@@ -18,9 +18,15 @@ verdict rows wide n b enough w e =
 
 pub returns-then-not-rows_right : goal.returns-then-not-rows_right
 unfolding question4
-returns-then-not-rows_right c = rw (sym c.lies_in.ensures ∙ c.if-not-lies_in.false, le-leb _ _ c.if-rows-nodes.false, verdict _ _ _ _ c.if-rows-nodes.false c.widen.ensures c.rows_right.ensures ∙ c.if-not-rows_right.true) refl
+returns-then-not-rows_right c =
+    let enough = c.if-rows-nodes.false in
+    let wide = c.widen.ensures ∙ widened_take c.args.rows.now c.args.n enough in
+    rw (sym c.lies_in.ensures ∙ c.if-not-lies_in.false, le-leb _ _ enough, verdict _ _ _ _ enough wide c.rows_right.ensures ∙ c.if-not-rows_right.true) refl
 
 pub returns : goal.returns
 unfolding question4
-returns c = rw (sym c.lies_in.ensures ∙ c.if-not-lies_in.false, le-leb _ _ c.if-rows-nodes.false, verdict _ _ _ _ c.if-rows-nodes.false c.widen.ensures c.rows_right.ensures ∙ c.if-not-rows_right.false)
-    (ap (λ (w : List ℕ). Ok (record { nodes = c.args.n; rows = w })) c.widen.ensures)
+returns c =
+    let enough = c.if-rows-nodes.false in
+    let wide = c.widen.ensures ∙ widened_take c.args.rows.now c.args.n enough in
+    rw (sym c.lies_in.ensures ∙ c.if-not-lies_in.false, le-leb _ _ enough, verdict _ _ _ _ enough wide c.rows_right.ensures ∙ c.if-not-rows_right.false)
+    (ap (λ (w : List ℕ). Ok (record { nodes = c.args.n; rows = w })) wide)

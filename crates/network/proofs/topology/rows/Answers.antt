@@ -1,12 +1,12 @@
 -- It adds question 10 to those of `build_graph`, and copies its rows.
-use Rattle.std.proofs.Common.{◌≡◌, sym, ap, ap₂, ◌∙◌, Bool, true, false, cond, Some, None, Ok, List, [], ◌∷◌, ◌++◌, ℕ, length, take, drop, arith}
-use Rattle.std.proofs.lemmas.Result.{err_from_is_err_and}
-use borrow.Author.Tests.{le-leb, lt-leb}
+use Rattle.std.proofs.Common.{◌≡◌, sym, ap, ap₂, ◌∙◌, Bool, true, cond, Some, None, Ok, List, [], ◌∷◌, ◌++◌, ℕ, ◌<◌, length, take, drop, arith}
+use Rattle.std.proofs.Math.Seq.{get_or-take, length-take-le}
+use borrow.Author.Tests.{le-leb}
 use lib.Dec.{leb}
 use lib.Pow.{pow_mono}
 use native.Mathlib.Nat.{lt_of_lt_of_le}
 use Rattle.config.specs.declared.refusal.Refusal.{Refusal}
-use Rattle.config.proofs.Unless.{refused}
+use Rattle.config.proofs.Unless.{refused, goes_up}
 use Rattle.random.proofs.Tables.{length_tabulate}
 use Rattle.network.specs.Questions.{first_no, nodes_of, topology_questions}
 use Rattle.network.specs.Graph.{widened}
@@ -25,11 +25,10 @@ tenth topology first second out = (leb (nodes_of topology first second) (length 
 pub returns-in_err-graph : goal.returns-in_err-graph
 returns-in_err-graph c =
     let a = c.args in
-    let p = err_from_is_err_and c.from_residual.result c.from_residual.ensures.1 in
     let qs = topology_questions a.topology a.first a.second in
     let t = topology_of a.topology a.second in
     let n = nodes_of a.topology a.first a.second in
-    rw (p.1, p.2)
+    rw (goes_up _ c.from_residual.ensures.1)
     (sym
     (ap (answered t n a.out.now)
     (first_no_lem qs (tenth a.topology a.first a.second a.out.now) _ (refused (graph_as t n) (first_no qs) _ (sym c.in_err-graph.ensures)))))
@@ -38,7 +37,13 @@ pub copy_rows-requires : goal.copy_rows-requires
 copy_rows-requires c =
     let a = c.args in
     let g = (built_is a.topology a.first a.second _ (sym c.in_ok-graph.ensures)).2 in
-    ((g.checked.enough, c.if-out-n.false), λ i h. lt_of_lt_of_le (g.checked.narrow i h) (pow_mono {j = 32} g.few))
+    let m = c.in_ok-graph.graph in
+    let all = length-take-le m.nodes m.rows g.checked.enough in (
+      omega (arith, all, c.if-out-n.false),
+      λ i h.
+          let low : i < m.nodes = omega (arith, all, h) in
+          rw (get_or-take m.nodes m.rows i 0 low) (lt_of_lt_of_le (g.checked.narrow i low) (pow_mono {j = 32} g.few)),
+    )
 
 -- question 10 decides where the others pass
 last : (topology first second : ℕ) (out : List ℕ) (b : Bool) → first_no (topology_questions topology first second) ≡ None
@@ -47,13 +52,6 @@ last : (topology first second : ℕ) (out : List ℕ) (b : Bool) → first_no (t
 last topology first second out b e l =
     ap (answered (topology_of topology second) (nodes_of topology first second) out)
     (all_yes (topology_questions topology first second) (tenth topology first second out) e ∙ ap (λ (x : Bool). cond x None (Some Refusal.ShortBuffers)) l)
-
-pub returns-then-out-n : goal.returns-then-out-n
-returns-then-out-n c =
-    let a = c.args in
-    let f = built_is a.topology a.first a.second _ (sym c.in_ok-graph.ensures) in
-    let nodes = ap (λ (g : Graph). g.nodes) f.1 in
-    sym (last a.topology a.first a.second a.out.now false f.0 (lt-leb _ _ (omega (arith, nodes, c.if-out-n.true))))
 
 -- the first rows in place are the topology's
 placed : (t : Topology) (n : ℕ) (out : List ℕ) → take n (widened (topology_rows t n) n) ++ drop n out ≡ with_rows t n out
@@ -68,6 +66,9 @@ returns c =
     let n = nodes_of a.topology a.first a.second in
     let f = built_is a.topology a.first a.second _ (sym c.in_ok-graph.ensures) in
     let nodes : n ≡ c.in_ok-graph.graph.nodes = ap (λ (g : Graph). g.nodes) f.1 in
+    let g = c.in_ok-graph.graph in
     ap₂ (λ (m : ℕ) (l : List ℕ). (Ok m, l)) (sym nodes)
-    (c.copy_rows.ensures ∙ ap (λ (g : Graph). take g.nodes g.rows ++ drop g.nodes out) (sym f.1) ∙ placed t n out)
+    (c.copy_rows.ensures
+    ∙ ap (λ (k : ℕ). take g.nodes g.rows ++ drop k out) (length-take-le g.nodes g.rows f.2.checked.enough)
+    ∙ ap (λ (g : Graph). take g.nodes g.rows ++ drop g.nodes out) (sym f.1) ∙ placed t n out)
     ∙ sym (last a.topology a.first a.second out true f.0 (le-leb _ _ (omega (arith, nodes, c.if-out-n.false))))

@@ -1,4 +1,4 @@
-use Rattle.std.proofs.Common.{◌≡◌, ◌<◌, ℕ, List, set, refl, sym, ap₂, ◌∙◌, zero-le, arith}
+use Rattle.std.proofs.Common.{◌<◌, ℕ, List, set, refl, sym, ap₂, ◌∙◌, zero-le, arith}
 use Rattle.network.specs.Graph.{widened}
 use Rattle.network.specs.Topology.{topology_row, topology_rows}
 use Rattle.network.proofs.Rows.{widened_more}
@@ -20,8 +20,3 @@ loop-i-preserved c =
       ap₂ (λ (l : List ℕ) (v : ℕ). set l i v) c.loop-i.invariant.1 (c.row.ensures ∙ sym (get_d_tabulate a.n of i 0 low))
           ∙ widened_more (topology_rows a.t a.n) i (omega (arith, length_tabulate a.n of)) (omega arith),
     )
-
-pub returns : goal.returns
-returns c =
-    let all : c.loop-i.i ≡ c.args.n = omega arith in
-    rw all at c.loop-i.invariant.1

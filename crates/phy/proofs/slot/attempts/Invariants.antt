@@ -9,5 +9,4 @@ use Rattle.phy.proofs.slot.attempts.Given as goal
 
 abbrev pub invariant-loop-i : goal.invariant-loop-i
 invariant-loop-i l =
-    (goal.iterator-loop-i).can_next l.i-iterator × (goal.iterator-loop-i).is_finite l.i-iterator
-    × ((m : ℕ) × Walked l.fn.flooding l.i-iterator.left m × (m ≤ l.n) × TriedOn l.rate (set_bits * m) (receivers l.rows (has l.fn.flooding) (has l.listening) l.n m) l.fn.t l.fn.stream l.tried l.stream)
+    (m : ℕ) × Walked l.flooding l.i-iterator.left m × (m ≤ l.n) × TriedOn l.rate (set_bits * m) (receivers l.rows (has l.flooding) (has l.listening) l.n m) l.fn.t l.fn.stream l.tried l.stream

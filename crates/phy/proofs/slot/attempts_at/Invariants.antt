@@ -9,5 +9,4 @@ use Rattle.phy.proofs.slot.attempts_at.Given as goal
 
 abbrev pub invariant-loop-j : goal.invariant-loop-j
 invariant-loop-j l =
-    (goal.iterator-loop-j).can_next l.j-iterator × (goal.iterator-loop-j).is_finite l.j-iterator
-    × ((m : ℕ) × Walked l.fn.set l.j-iterator.left m × (m ≤ set_bits) × TriedOn l.rate m (among m (has l.fn.set)) l.fn.t l.fn.stream l.tried l.stream)
+    (m : ℕ) × Walked l.fn.set l.j-iterator.left m × (m ≤ set_bits) × TriedOn l.rate m (among m (has l.fn.set)) l.fn.t l.fn.stream l.tried l.stream

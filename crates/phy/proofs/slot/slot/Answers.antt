@@ -7,7 +7,7 @@ use Rattle.phy.proofs.slot.slot.Goals as goal
 pub shown-seen-requires : goal.shown-seen-requires
 shown-seen-requires c =
     let met = c.requires.2 in
-    awake_few c.args.settings.nodes met.standing.nodes c.args.x.listening c.args.x.flooding met.here.stands.listening met.here.stands.flooding
+    awake_few c.args.settings.nodes met.standing.nodes c.args.x.awake met.here.stands.listening met.here.stands.flooding
 
 pub attempts-tried-requires : goal.attempts-tried-requires
 attempts-tried-requires c =
@@ -18,8 +18,8 @@ attempts-tried-requires c =
     let n = c.args.settings.nodes in
     record {
       few = sound.few;
-      listeners = listening_lt n nodes x.listening x.flooding stands.listening stands.flooding;
-      flooders = flooding_lt n nodes x.listening x.flooding stands.listening stands.flooding;
+      listeners = listening_lt n nodes x.awake stands.listening stands.flooding;
+      flooders = flooding_lt n nodes x.awake stands.listening stands.flooding;
       attempts = omega (arith, sound.attempts);
       successes = omega (arith, sound.successes);
     }

@@ -1,17 +1,11 @@
 use Rattle.std.proofs.Common.{ℕ, suc, ◌≡◌, ◌+◌, ◌-◌, refl, sym, ap, subst, ◌∙◌, arith}
 use Rattle.phy.specs.Slot.{take_one, take_while}
 use Rattle.phy.specs.View.{shot_of, Scheduled}
-use Rattle.phy.proofs.Snapshots.{none_due, one_due, scheduled_one, next_fits, one_more}
+use Rattle.phy.proofs.Snapshots.{none_due, one_due, scheduled_one, one_more}
 use Rattle.phy.proofs.snapshot.take_snapshots.Goals as goal
 
 pub loop-next-init : goal.loop-next-init
 loop-next-init c = (c.requires.2, omega arith, λ b₀ x₀ r. (suc c.args.slot.0, x₀, omega arith, r, refl))
-
-pub overflow_add-next : goal.overflow_add-next
-overflow_add-next c = omega (arith, next_fits c.loop-next.count c.args.interval c.args.slot.0 (omega arith) c.requires.0 (omega arith) c.requires.1)
-
-pub overflow_add-count : goal.overflow_add-count
-overflow_add-count c = omega (arith, next_fits c.loop-next.count c.args.interval c.args.slot.0 (omega arith) c.requires.0 (omega arith) c.requires.1)
 
 pub loop-next-preserved : goal.loop-next-preserved
 unfolding take_one

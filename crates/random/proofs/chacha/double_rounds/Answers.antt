@@ -1,4 +1,4 @@
-use Rattle.std.proofs.Common.{◌≡◌, refl, ap, ◌∙◌, add-one, arith}
+use Rattle.std.proofs.Common.{refl, ap, ◌∙◌, add-one, arith}
 use Rattle.random.specs.ChaCha.{column_round, diagonal_round, double_rounds}
 use Rattle.random.proofs.chacha.double_rounds.Goals as goal
 
@@ -12,8 +12,3 @@ loop-i-preserved c = (
   omega arith,
   rw add-one (c.diagonal_round-t.ensures ∙ ap diagonal_round (c.column_round.ensures ∙ ap column_round c.loop-i.invariant.1)),
 )
-
-pub returns : goal.returns
-returns c =
-    let all : c.loop-i.i ≡ c.args.k = omega arith in
-    rw all at c.loop-i.invariant.1

@@ -6,5 +6,4 @@ use Rattle.network.proofs.graph.Graph.backed.Given as goal
 
 abbrev pub invariant-loop-j : goal.invariant-loop-j
 invariant-loop-j l =
-    (goal.iterator-loop-j).can_next l.j-iterator × (goal.iterator-loop-j).is_finite l.j-iterator
-    × ((m : ℕ) × Walked (get_or l.self.rows l.i.0 0) l.j-iterator.left m × ((j : ℕ) → j < m → not (linked l.self.rows l.i.0 j) || linked l.self.rows j l.i.0 ≡ true))
+    (m : ℕ) × Walked (get_or l.self.rows l.i.0 0) l.j-iterator.left m × ((j : ℕ) → j < m → not (linked l.self.rows l.i.0 j) || linked l.self.rows j l.i.0 ≡ true)

@@ -17,9 +17,6 @@ loop-reached-init c =
     let one = one_shl 64 c.args.a.0 (omega arith) in
     (one, below_none _, record { small = rw one (pow-lt c.requires.1.1); holds = λ i j _ _ _ _. refl })
 
-pub linked_to-requires : goal.linked_to-requires
-linked_to-requires c = (c.requires.0, (c.requires.1.0, c.loop-reached.invariant.2.small))
-
 -- what a step reaches, and its edge
 step : {rows : List ℕ} {n a reached edge found : ℕ} (k : ℕ) → a < n → reached ≡ reach rows n a k → Edge rows n reached edge
     → found ≡ set_of n (λ j. any n (λ i. has edge i && linked rows i j))

@@ -7,5 +7,4 @@ use Rattle.network.proofs.graph.Graph.linked_to.Given as goal
 
 abbrev pub invariant-loop-t : goal.invariant-loop-t
 invariant-loop-t l =
-    (goal.iterator-loop-t).can_next l.t-iterator × (goal.iterator-loop-t).is_finite l.t-iterator
-    × ((m : ℕ) × (m ≤ l.self.nodes) × Walked l.edge l.t-iterator.left m × (l.found < 2 ^ l.self.nodes) × ((j : ℕ) → has l.found j ≡ touches l.self.rows l.edge m j))
+    (m : ℕ) × (m ≤ l.self.nodes) × Walked l.edge l.t-iterator.left m × (l.found < 2 ^ l.self.nodes) × ((j : ℕ) → has l.found j ≡ touches l.self.rows l.edge m j)

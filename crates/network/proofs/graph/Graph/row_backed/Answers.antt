@@ -10,9 +10,6 @@ returns-then-full_set-set c =
     let g = c.args.self.now in
     rw (le-ltb (get_or g.rows c.args.i.0 0) (2 ^ g.nodes) (omega (arith, pow_pos g.nodes)))
 
-pub backed-requires : goal.backed-requires
-backed-requires c = (omega arith, (omega arith, omega (arith, pow_pos c.args.self.now.nodes)))
-
 pub returns : goal.returns
 unfolding row_backed linked
 returns c =
