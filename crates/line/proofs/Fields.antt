@@ -1,19 +1,19 @@
 -- The bytes before a stop, and the fields of a line, from a place on. Assumes nothing.
-use Prim.Native.Nat.{ℕ, zero, suc, ◌+◌, ◌-◌, ◌≤◌, ◌<◌}
+use Prim.Native.Nat.{ℕ, zero, suc, ◌+◌, ◌≤◌, min}
 use mathlib.Core.Path.{◌≡◌, refl, sym, ap, ◌∙◌}
 use mathlib.Core.Bool.{Bool, true, false, cond}
 use mathlib.Core.List.{List, [], ◌∷◌}
 use native.Mathlib.Omega.{arith}
 use lib.Dec.{eqb, ltb}
 use lib.ListN.{length, get_or, take, drop, drop_of_length-le, length-take}
-use Rattle.std.specs.List.{onto_first, position_or_len, slice_get, slice_split}
+use Rattle.std.specs.List.{onto_first, position_or_len, slice_get, slice_split, sum_by}
 use Rattle.std.specs.Option.{option_map, unwrap_or}
 use Rattle.std.proofs.lemmas.Option.{unwrap_or-slice_get}
 use Rattle.std.specs.Prelude.{Option, Some, None}
-use Rattle.std.proofs.lemmas.List.Sums.{prefix_len-le-length}
+use Rattle.std.proofs.lemmas.List.{drop_min}
+use Rattle.std.proofs.lemmas.List.Sums.{prefix_len-le-length, sum_by_from}
 use Rattle.std.proofs.lemmas.List.Recursion.{is_position_or_len}
-use borrow.Author.Tests.{eq-eqb, ne_eqb, ltb-false}
-use Rattle.text.proofs.Front.{front}
+use borrow.Author.Tests.{ltb-false}
 use Rattle.line.specs.Line.{bytes_before, fields, prefixed}
 
 -- the bytes before a stop are the first ones
@@ -52,11 +52,6 @@ before_place stop l =
         case : (t : Bool) → length (cond t [] (b ∷ bytes_before stop bs)) ≡ cond t 0 (1 + length (bytes_before stop bs))
         case true = refl
         case false = omega arith
-
-later_prefixed : (b : ℕ) (fs : List (List ℕ)) (k : ℕ) → get_or (prefixed b fs) (suc k) [] ≡ get_or fs (suc k) []
-unfolding prefixed
-later_prefixed b [] k = refl
-later_prefixed b (f ∷ fs) k = refl
 
 -- the first field is what stands before the first space
 pub fields_first : (l : List ℕ) → (fs : List (List ℕ)) × (fields l ≡ bytes_before 32 l ∷ fs)
@@ -97,25 +92,56 @@ part_at {A = A} now r d l k e n =
 pub first_field : (l : List ℕ) → bytes_before 32 l ≡ get_or (fields l) 0 []
 first_field l = rw (fields_first l).1
 
-module _ (l : List ℕ) (i : ℕ) where
-  pub fields_end : length l ≤ i → (k : ℕ) → get_or (fields (drop i l)) k [] ≡ bytes_before 32 (drop i l)
-  unfolding fields bytes_before
-  fields_end h zero = rw (drop_of_length-le l h)
-  fields_end h (suc k) = rw (drop_of_length-le l h)
+-- the bytes of fields, each with one more for the space or the end behind it
+abbrev pub weight : List (List ℕ) → ℕ
+weight [] = 0
+weight (f ∷ fs) = suc (length f) + weight fs
 
-  module _ (in-line : i < length l) where
-    fields_space : get_or l i 0 ≡ 32 → fields (drop i l) ≡ [] ∷ fields (drop (i + 1) l)
-    unfolding fields
-    fields_space e = rw (front l i in-line) (simp (eq-eqb _ _ e))
+pub weight_fields : (l : List ℕ) → weight (fields l) ≡ suc (length l)
+unfolding fields prefixed
+weight_fields [] = refl
+weight_fields (b ∷ bs) = case (weight_fields bs) (eqb b 32)
+  where
+    case : weight (fields bs) ≡ suc (length bs) → (t : Bool) → weight (cond t ([] ∷ fields bs) (prefixed b (fields bs))) ≡ suc (suc (length bs))
+    case e true = omega (arith, e)
+    case e false = let first = fields_first bs in rw first.1 (omega (arith, e, ap weight first.1))
 
-    fields_other : (get_or l i 0 ≡ 32 → ⊥) → fields (drop i l) ≡ prefixed (get_or l i 0) (fields (drop (i + 1) l))
-    unfolding fields
-    fields_other e = rw (front l i in-line) (simp (ne_eqb _ _ e))
+weight_take : (k : ℕ) (fs : List (List ℕ)) → weight (take k fs) ≤ weight fs
+weight_take zero fs = omega arith
+weight_take (suc k) [] = omega arith
+weight_take (suc k) (f ∷ fs) = omega (arith, weight_take k fs)
 
-    pub field_space : (k : ℕ) → (k ≡ 0 → ⊥) → get_or l i 0 ≡ 32 → get_or (fields (drop i l)) k [] ≡ get_or (fields (drop (i + 1) l)) (k - 1) []
-    field_space zero n e = absurd (n refl)
-    field_space (suc k) n e = let p : suc k - 1 ≡ k = omega arith in rw (fields_space e, p)
+weight_sum : (fs : List (List ℕ)) → sum_by (λ f. length f + 1) fs ≡ weight fs
+weight_sum [] = refl
+weight_sum (f ∷ fs) = omega (arith, sum_by_from (λ (f : List ℕ). length f + 1) (0 + (length f + 1)) fs, weight_sum fs)
 
-    pub field_other : (k : ℕ) → (k ≡ 0 → ⊥) → (get_or l i 0 ≡ 32 → ⊥) → get_or (fields (drop i l)) k [] ≡ get_or (fields (drop (i + 1) l)) k []
-    field_other zero n e = absurd (n refl)
-    field_other (suc k) n e = rw (fields_other e) (later_prefixed _ _ k)
+-- the fields in front of field k, by std's words
+abbrev pub in_front : List ℕ → ℕ → List (List ℕ)
+in_front l k = take k (slice_split (λ b. eqb b 32) l)
+
+pub front_short : (l : List ℕ) (k : ℕ) → sum_by (λ f. length f + 1) (in_front l k) ≤ suc (length l)
+front_short l k = rw (weight_sum, fields_split) (omega (arith, weight_take k (fields l), weight_fields l))
+
+-- a place behind the first byte is one less in the other bytes
+further : (b : ℕ) (bs : List ℕ) {n m : ℕ} {x : List ℕ} → n ≡ suc m → bytes_before 32 (drop m bs) ≡ x → bytes_before 32 (drop n (b ∷ bs)) ≡ x
+further b bs e h = ap (λ (i : ℕ). bytes_before 32 (drop i (b ∷ bs))) e ∙ h
+
+-- behind them is field k, or the end
+field_behind : (l : List ℕ) (k : ℕ) → bytes_before 32 (drop (weight (take k (fields l))) l) ≡ get_or (fields l) k []
+unfolding fields bytes_before prefixed
+field_behind l zero = first_field l
+field_behind [] (suc k) = rw (drop_of_length-le {A = ℕ} [] (let some : 0 ≤ weight (take (suc k) ([] ∷ [])) = omega arith in some))
+field_behind (b ∷ bs) (suc k) = case (field_behind bs k) (field_behind bs (suc k)) (fields_first bs) (eqb b 32)
+  where
+    case : bytes_before 32 (drop (weight (take k (fields bs))) bs) ≡ get_or (fields bs) k []
+        → bytes_before 32 (drop (weight (take (suc k) (fields bs))) bs) ≡ get_or (fields bs) (suc k) []
+        → (fs : List (List ℕ)) × (fields bs ≡ bytes_before 32 bs ∷ fs) → (t : Bool)
+        → bytes_before 32 (drop (weight (take (suc k) (cond t ([] ∷ fields bs) (prefixed b (fields bs))))) (b ∷ bs)) ≡ get_or (cond t ([] ∷ fields bs) (prefixed b (fields bs))) (suc k) []
+    case here later first true = further b bs (omega arith) here
+    case here later first false = rw first.1 (further b bs (omega arith) (rw first.1 at later))
+
+pub front_start : (l : List ℕ) (k : ℕ) {n m : ℕ} → n ≡ min m (length l) → m ≡ sum_by (λ f. length f + 1) (in_front l k)
+    → (n ≤ length l) × (bytes_before 32 (drop n l) ≡ get_or (fields l) k [])
+front_start l k {n} {m} e sum =
+    let same : m ≡ weight (take k (fields l)) = sum ∙ weight_sum (in_front l k) ∙ ap (λ fs. weight (take k fs)) (fields_split l) in
+    (omega (arith, e), rw (e, drop_min m l, same) (field_behind l k))

@@ -11,25 +11,11 @@ use lib.ListN.{length, get_or, take, length-take}
 use lib.Seq.{take_all}
 use borrow.Author.Count.{below_none, below_more}
 use borrow.Author.Tests.{eqb-true, leb-true, leb-false}
-use Rattle.line.specs.Line.{bytes_before, fields, prefixed, is_dash, slots_present, round_slots_of, ◌>>=◌, four_decimals, read_fields, read_line}
+use Rattle.line.specs.Line.{bytes_before, fields, is_dash, slots_present, round_slots_of, ◌>>=◌, four_decimals, read_fields, read_line}
 use Rattle.text.specs.Numeral.{decimal, hexadecimal}
 use Rattle.line.specs.declared.read.Line.{Line}
 use Rattle.config.specs.declared.refusal.Refusal.{Refusal}
-use Rattle.line.proofs.Fields.{fields_first}
-
--- the bytes of the fields, each with one more for the space or the end behind it
-abbrev weight : List (List ℕ) → ℕ
-weight [] = 0
-weight (f ∷ fs) = suc (length f) + weight fs
-
-weight_fields : (l : List ℕ) → weight (fields l) ≡ suc (length l)
-unfolding fields prefixed
-weight_fields [] = refl
-weight_fields (b ∷ bs) = case (weight_fields bs) (eqb b 32)
-  where
-    case : weight (fields bs) ≡ suc (length bs) → (t : Bool) → weight (cond t ([] ∷ fields bs) (prefixed b (fields bs))) ≡ suc (suc (length bs))
-    case e true = omega (arith, e)
-    case e false = let first = fields_first bs in rw first.1 (omega (arith, e, ap weight first.1))
+use Rattle.line.proofs.Fields.{weight, weight_fields}
 
 abbrev Short : List (List ℕ) → ℕ → Type 0
 Short fs j = length (get_or fs j []) ≤ 20

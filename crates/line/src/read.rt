@@ -5,7 +5,7 @@ ghost use Rattle.line.specs.Line.{bytes_before, fields, is_dash, read_fields, re
 use config::refusal::Refusal;
 use text::numeral::{decimal, hexadecimal};
 
-// How many fields a line has.
+// A line that is readable has so many.
 const LINE_FIELDS: usize = 10;
 
 // What the line asks for. The loss rate is the bits of its f64.
@@ -24,7 +24,7 @@ pub struct Line {
 }
 
 // How many bytes stand before the first `stop`: all of them where there is none.
-pub fn until(s: &[u8], stop: u8) -> usize
+fn until(s: &[u8], stop: u8) -> usize
     ensures { (result ≡ length (bytes_before stop s.now)) × (result ≤ length s.now) }
 {
     s.iter().position(|&byte| byte == stop).unwrap_or(s.len())
@@ -46,22 +46,17 @@ fn field_count(line: &[u8]) -> usize
     line.split(|&byte| byte == b' ').count()
 }
 
-// Where field k starts: behind the k-th space, or the line's end. What stands from there on may itself have spaces, so it is
-// not a field.
-#[tactic(auto, using(crate::proofs::Fields::first_field, crate::proofs::Fields::fields_end, crate::proofs::Fields::field_space, crate::proofs::Fields::field_other))]
+// Where field k starts, or the line's end: behind the fields before it, each with the space behind it. What stands from there
+// on may itself have spaces, so it is not a field.
 pub fn field_start(line: &[u8], k: usize) -> usize
     ensures { (result ≤ length line.now) × (bytes_before space (drop result line.now) ≡ get_or (fields line.now) k []) }
 {
-    let mut left = k;
-    for (at, &byte) in line.iter().enumerate() {
-        if left == 0 {
-            return at;
-        }
-        if byte == b' ' {
-            left -= 1;
-        }
-    }
-    line.len()
+    let before: usize = line
+        .split(|&byte| byte == b' ')
+        .take(k)
+        .map(|field| field.len() + 1)
+        .sum();
+    before.min(line.len())
 }
 
 // Field k of a line.

@@ -151,10 +151,15 @@ fn short_buffers(rt: &impl Print) -> io::Result<()> {
     println!(rt; "| {m}")
 }
 
-fn main(rt: HostRuntime) -> io::Result<()> {
-    readable(&rt)?;
-    hostile(&rt)?;
-    long(&rt)?;
-    listings(&rt)?;
-    short_buffers(&rt)
+fn print_all(rt: &impl Print) -> io::Result<()> {
+    readable(rt)?;
+    hostile(rt)?;
+    long(rt)?;
+    listings(rt)?;
+    short_buffers(rt)
+}
+
+// A failed write ends it, and is told by nothing else: what is printed is compared.
+fn main(rt: HostRuntime) {
+    let _ = print_all(&rt);
 }

@@ -47,6 +47,10 @@ snapshot_line snapshots i =
 unfoldable pub term_text : List ℕ → ℕ → ℕ → List ℕ
 term_text logs i k = labelled " " (get_or logs (max_terms * i + k) 0)
 
+-- term k of a log
+unfoldable pub term_in : List ℕ → ℕ → List ℕ
+term_in log k = labelled " " (get_or log k 0)
+
 -- node i's log: its number, and its terms
 unfoldable pub log_line : List ℕ → ℕ → List ℕ
 log_line logs i = labelled "log " i ++ each (term_text logs i) (min (get_or logs (log_counts + i) 0) max_terms) ++ ascii "\n"

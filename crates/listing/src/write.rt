@@ -3,8 +3,10 @@ ghost use Rattle.std.specs.Prelude.{◌≡◌, ◌*◌, ◌≤◌, ◌<◌, get_
 ghost use Rattle.config.specs.Limits.{max_listed, max_nodes, max_terms};
 ghost use Rattle.text.specs.Overlay.{Lays, Room, Written};
 ghost use Rattle.text.specs.Text.{each};
-ghost use Rattle.listing.specs.Listing.{line_of, link_line, listing, log_line, proposal_line, radio_line, refusal_text, run_line, snapshot_line, term_text};
-ghost use Rattle.listing.specs.Listing.{line_most, link_line_most, listing_most, log_line_most, proposal_line_most, radio_line_most, most_lines, refusal_most, run_line_most, snapshot_line_most, term_most};
+ghost use Rattle.listing.specs.Listing.{line_of, link_line, listing, log_line, proposal_line, radio_line, refusal_text, run_line};
+ghost use Rattle.listing.specs.Listing.{line_most, link_line_most, listing_most, log_line_most, most_lines, proposal_line_most};
+ghost use Rattle.listing.specs.Listing.{radio_line_most, refusal_most, run_line_most, snapshot_line, snapshot_line_most};
+ghost use Rattle.listing.specs.Listing.{term_in, term_most};
 
 use super::words::{put_labelled, put_spaced};
 use config::limits::{LOG_COUNTS, MAX_LISTED, MAX_NODES, MAX_TERMS, RECORD_SIZE, SNAPSHOT_SIZE};
@@ -107,23 +109,22 @@ fn put_snapshot_line(over: &mut Overlay, snapshots: &[u64], i: usize)
     over.put(b'\n');
 }
 
-// Term k of node i's log.
-fn put_term(over: &mut Overlay, logs: &[u8], i: usize, k: usize)
-    requires { (i < max_nodes) × (k < max_terms) × Room over.old.at term_most }
-    ensures { Lays term_most (term_text logs.now i k) over.old over.new }
+// Term k of a log.
+fn put_term(over: &mut Overlay, log: &[u8], k: usize)
+    requires { Room over.old.at term_most }
+    ensures { Lays term_most (term_in log.now k) over.old over.new }
 {
-    let term = byte_at(logs, MAX_TERMS * i + k);
-    put_spaced(over, term);
+    put_spaced(over, byte_at(log, k));
 }
 
-// The first n terms of node i's log.
-fn put_terms(over: &mut Overlay, n: u64, logs: &[u8], i: usize)
-    requires { (n ≤ max_terms) × (i < max_nodes) × Room over.old.at (max_terms * term_most) }
-    ensures { Lays (max_terms * term_most) (each (term_text logs.now i) n) over.old over.new }
+// The first n terms of a log.
+fn put_terms(over: &mut Overlay, n: u64, log: &[u8])
+    requires { (n ≤ max_terms) × Room over.old.at (max_terms * term_most) }
+    ensures { Lays (max_terms * term_most) (each (term_in log.now) n) over.old over.new }
 {
     // By the term's number: past the end of a short buffer a term is listed too, as 0.
     for k in 0..n as usize {
-        put_term(over, logs, i, k);
+        put_term(over, log, k);
     }
 }
 
@@ -134,7 +135,8 @@ fn put_log_line(over: &mut Overlay, logs: &[u8], i: usize)
 {
     put_labelled(over, b"log ", i as u64);
     let n = byte_at(logs, LOG_COUNTS + i).min(MAX_TERMS as u64);
-    put_terms(over, n, logs, i);
+    let start = (MAX_TERMS * i).min(logs.len());
+    put_terms(over, n, &logs[start..]);
     over.put(b'\n');
 }
 
@@ -216,7 +218,8 @@ pub fn write_listing(
     over.at
 }
 
-// Lays the refusal of a number over the start of a buffer, and answers how many bytes it has.
+// Lays the refusal of a number over the start of a buffer, and answers how many bytes it has. Of any number: with a `Refusal`
+// it would ask more of its callers.
 pub fn write_refusal(number: u64, out: &mut [u8]) -> usize
     ensures { Written refusal_most (refusal_text number) out.old out.new result }
 {

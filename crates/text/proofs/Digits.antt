@@ -2,10 +2,10 @@
 use Prim.Native.Nat.{ℕ, ◌+◌, ◌-◌, ◌/◌, ◌%◌, ◌^◌, ◌≤◌, ◌<◌}
 use mathlib.Core.Path.{◌≡◌, refl, sym, ap, ◌∙◌}
 use mathlib.Core.Bool.{Bool, true, false}
-use mathlib.Core.List.{List, [], ◌∷◌, ◌++◌, append_assoc, append-nil}
+use mathlib.Core.List.{List, [], ◌∷◌, ◌++◌, append_assoc}
 use native.Mathlib.Omega.{arith}
 use lib.Dec.{ltb}
-use lib.ListN.{length, take, drop, set, replicate, length-append}
+use lib.ListN.{length, take, drop, set, length-append}
 use borrow.Author.Tests.{ltb-true, ltb-false}
 use Rattle.std.proofs.lemmas.List.{drop-set, length-drop, length-set, take_all}
 use Rattle.text.specs.Text.{spelled}
@@ -24,9 +24,6 @@ pub record Spells (n rest first : ℕ) (l : List ℕ) : Type 0 where
   pub inside : first < 20
   pub size : length l ≡ 20
   pub digits : spelled n ≡ spelled rest ++ drop (first + 1) l
-
-pub spells_none : (n : ℕ) → Spells n n 19 (replicate 20 0)
-spells_none n = record { inside = omega arith; size = refl; digits = sym (append-nil (spelled n)) }
 
 module _ {n rest first : ℕ} {l : List ℕ} (s : Spells n rest first l) where
   -- where there are digits, there is a place in front

@@ -1,16 +1,16 @@
 -- Reading digits from the front. Assumes nothing.
 use Prim.Native.Nat.{ℕ, ◌+◌, ◌-◌, ◌*◌, ◌^◌, ◌≤◌, ◌<◌}
 use mathlib.Core.Path.{◌≡◌, refl}
-use mathlib.Core.Bool.{cond, ◌&&◌, and-false}
+use mathlib.Core.Bool.{Bool, true, false, cond, ◌&&◌, and-false}
 use Rattle.std.specs.Prelude.{Option, Some, None}
 use mathlib.Core.List.{List, [], ◌∷◌}
 use native.Mathlib.Nat.{le_refl, le-mul_of_pos_right}
 use native.Mathlib.Omega.{arith}
 use lib.Dec.{ltb}
 use lib.ListN.{length, get_or, drop, drop_of_length-le}
-use borrow.Author.Tests.{lt-ltb, le-ltb, le-leb, lt-leb}
+use borrow.Author.Tests.{lt-ltb, le-ltb, le-leb, lt-leb, ltb-false}
 use Rattle.text.proofs.Front.{front}
-use Rattle.text.specs.Numeral.{digit, all_digits, append, numeral}
+use Rattle.text.specs.Numeral.{digit, some_digit, all_digits, append, numeral}
 
 module _ {b : ℕ} where
   pub digit_low : b < 48 → digit b ≡ 16
@@ -50,6 +50,24 @@ pub from_end : (base n : ℕ) (t : List ℕ) (i : ℕ) → length t ≤ i → n 
 unfolding numeral_from all_digits append
 from_end base n t i e h = rw (drop_of_length-le t e) (simp (lt-ltb n (2 ^ 64) h))
 
+-- what is known of a byte's digit
+module _ (b : ℕ) where
+  pub digit_is : {d : ℕ} → Some d ≡ some_digit b → digit b ≡ d
+  unfolding some_digit
+  digit_is {d} e = case (ltb (digit b) 16) e
+    where
+      case : (q : Bool) → Some d ≡ cond q (Some (digit b)) None → digit b ≡ d
+      case true e = cc
+      case false e = cc
+
+  pub digit_none : None ≡ some_digit b → 16 ≤ digit b
+  unfolding some_digit
+  digit_none e = case (ltb (digit b) 16) refl e
+    where
+      case : (q : Bool) → ltb (digit b) 16 ≡ q → None ≡ cond q (Some (digit b)) None → 16 ≤ digit b
+      case true q e = cc
+      case false q e = ltb-false (digit b) 16 q
+
 -- the next digit, at place i of a text
 module _ (base n : ℕ) (t : List ℕ) (i : ℕ) (in-text : i < length t) where
   pub from_other : base ≤ digit (get_or t i 0) → numeral_from base n (drop i t) ≡ None
@@ -66,3 +84,6 @@ module _ (base n : ℕ) (t : List ℕ) (i : ℕ) (in-text : i < length t) where
   pub from_digit : digit (get_or t i 0) < base → numeral_from base n (drop i t) ≡ numeral_from base (n * base + digit (get_or t i 0)) (drop (i + 1) t)
   unfolding numeral_from all_digits append
   from_digit h = rw (front t i in-text) (simp (lt-ltb (digit (get_or t i 0)) base h))
+
+-- the steps of reading a numeral
+pub ruleset numeral_steps = (digit_is, digit_none, from_start, from_end, from_other, from_large, from_digit)

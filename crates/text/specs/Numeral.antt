@@ -5,6 +5,10 @@ use Rattle.std.specs.Prelude.{ℕ, ◌+◌, ◌-◌, ◌*◌, ◌^◌, Bool, tru
 unfoldable pub digit : ℕ → ℕ
 digit b = cond (leb 48 b && leb b 57) (b - 48) (cond (leb 97 b && leb b 102) (b - 87) 16)
 
+-- the same, and none where it is 16
+unfoldable pub some_digit : ℕ → Option ℕ
+some_digit b = cond (ltb (digit b) 16) (Some (digit b)) None
+
 -- every byte is a digit of the base
 unfoldable pub all_digits : ℕ → List ℕ → Bool
 all_digits base [] = true

@@ -7,28 +7,28 @@ pub(crate) const MAX_DIGITS: usize = 20;
 
 const RATE_DIGITS: usize = 16;
 
-// The digit that a byte stands for: `0` to `9`, then `a` to `f`. Of any other byte 16.
-#[tactic(auto, unfolding(crate::specs::Numeral::digit))]
-pub fn digit(byte: u8) -> u64
-    ensures { result ≡ Numeral.digit byte }
+// The digit that a byte stands for: `0` to `9`, then `a` to `f`.
+#[tactic(auto, unfolding(crate::specs::Numeral::digit, crate::specs::Numeral::some_digit))]
+pub fn digit(byte: u8) -> Option<u64>
+    ensures { result ≡ Numeral.some_digit byte }
 {
     match byte {
-        b'0'..=b'9' => (byte - b'0') as u64,
-        b'a'..=b'f' => (byte - b'a') as u64 + 10,
-        _ => 16,
+        b'0'..=b'9' => Some((byte - b'0') as u64),
+        b'a'..=b'f' => Some((byte - b'a') as u64 + 10),
+        _ => None,
     }
 }
 
 // The number that a text of digits stands for, if it is below 2^64. std's `from_str_radix` would also take a `+` and capital
 // letters.
-#[tactic(auto, using(crate::proofs::Numerals::from_start, crate::proofs::Numerals::from_end, crate::proofs::Numerals::from_other, crate::proofs::Numerals::from_large, crate::proofs::Numerals::from_digit))]
+#[tactic(auto, using(crate::proofs::Numerals::numeral_steps))]
 pub fn numeral(base: u64, text: &[u8]) -> Option<u64>
     requires { (1 ≤ base) × (base ≤ 16) }
     ensures { result ≡ Numeral.numeral base text.now }
 {
     let mut n = 0u64;
     for &byte in text {
-        let d = digit(byte);
+        let d = digit(byte)?;
         if base <= d {
             return None;
         }

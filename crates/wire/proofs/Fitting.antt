@@ -1,16 +1,16 @@
 -- What a packet that has a text fits, as facts. Assumes nothing.
-use Rattle.std.specs.Prelude.{Option, Some, None}
 use Prim.Native.Nat.{ℕ, ◌^◌, ◌≤◌, ◌<◌}
 use mathlib.Core.Path.{◌≡◌, refl}
 use mathlib.Core.Bool.{true}
 use native.Mathlib.Omega.{arith}
+use lib.Dec.{leb, ltb}
 use borrow.Author.Tests.{eqb-true, le-leb, leb-true, lt-ltb, ltb-true}
 use Rattle.std.specs.Prelude.{Option, Some, None}
 use Rattle.config.specs.Limits.{max_nodes, max_terms, min_nodes}
 use Rattle.network.specs.declared.units.Term.{Term}
 use Rattle.network.proofs.Sets.{and_both}
 use Rattle.phy.specs.declared.packet.Packet.{Packet}
-use Rattle.wire.specs.Grammar.{data_fits, flags_fit, has_text, last_accepted_fits, nack_fits, piggyback_fits, terms_fit}
+use Rattle.wire.specs.Grammar.{data_fits, flags_fit, has_text, last_accepted_fits, nack_fits, nack_number, piggyback_fits, terms_fit}
 use Rattle.wire.specs.View.{data_below}
 
 -- the flags and the sender
@@ -72,3 +72,8 @@ has_text_lem n p f g =
 pub data_below_lem : (t : Term) (d : Option Term) → t.0 < max_terms → data_fits t d ≡ true → data_below d ≡ true
 data_below_lem t None h e = refl
 data_below_lem t (Some u) h e = lt-ltb u.0 64 (omega (arith, eqb-true u.0 t.0 e))
+
+-- the number of a NACK
+pub nack_low : (asked : Option Term) → nack_fits asked ≡ true → nack_number asked < max_terms
+nack_low None fits = omega arith
+nack_low (Some t) fits = ltb-true t.0 max_terms (and_both (leb 1 t.0) (ltb t.0 max_terms) fits).1

@@ -6,7 +6,7 @@ use mathlib.Core.Bool.{Bool, true, false}
 use mathlib.Core.List.{List}
 use native.Mathlib.Nat.{suc-mul}
 use native.Mathlib.Omega.{arith}
-use lib.Dec.{leb, ltb}
+use lib.Dec.{ltb}
 use lib.ListN.{length, length-append}
 use borrow.Author.Tests.{ltb-true, ltb-false}
 use Rattle.std.specs.Prelude.{Option, Some, None}
@@ -23,7 +23,7 @@ use Rattle.wire.specs.Grammar.{last_accepted_text, nack_fits, nack_number, null_
 use Rattle.wire.specs.Writing.{NoLongerText}
 use Rattle.wire.specs.View.{data_below, digit_text, digits_text, mark, marked_flag}
 use Rattle.wire.proofs.Arrays.{data_text_lem, digits_one, digits_two, flags_each}
-use Rattle.wire.proofs.Fitting.{FlagsFit, TermsFit, data_below_lem, fitting}
+use Rattle.wire.proofs.Fitting.{FlagsFit, TermsFit, data_below_lem, fitting, nack_low}
 
 small : (n : ℕ) → n < 100 → length (spelled n) ≤ small_most
 small n h = spelled_short 2 n (omega arith) (omega arith)
@@ -34,8 +34,7 @@ last_accepted_size None h = omega arith
 last_accepted_size (Some t) h = omega (arith, small t.0 (omega (arith, ltb-true t.0 64 h)))
 
 nack_size : (a : Option Term) → nack_fits a ≡ true → length (spelled (nack_number a)) ≤ small_most
-nack_size None h = small 0 (omega arith)
-nack_size (Some t) h = small t.0 (omega (arith, ltb-true t.0 64 (and_both (leb 1 t.0) (ltb t.0 64) h).1))
+nack_size a h = small (nack_number a) (omega (arith, nack_low a h))
 
 -- a flag, with the mark in front of it
 flag_size : (s i : ℕ) → length (marked_flag s i) ≤ flag_most

@@ -3,12 +3,14 @@ ghost use Rattle.std.specs.Prelude.{◌≡◌, true, ◌+◌, ◌*◌, ◌≤◌
 ghost use Rattle.config.specs.Limits.{max_nodes};
 ghost use Rattle.text.specs.Overlay.{Lays, Room};
 ghost use Rattle.text.specs.Text.{number_most, spelled};
-ghost use Rattle.wire.specs.Grammar.{body_most, body_text, data_most, data_text, digit_most, flag_most, flags_most, flags_text, has_text, header_most, header_text, last_accepted_fits};
-ghost use Rattle.wire.specs.Grammar.{last_accepted_text, nack_fits, nack_number, null_most, packet_text, piggyback_fits, piggyback_most, piggyback_text, small_most, terms_fit, text_most};
+ghost use Rattle.wire.specs.Grammar.{body_most, body_text, data_most, data_text, digit_most, flag_most, flags_most, flags_text};
+ghost use Rattle.wire.specs.Grammar.{has_text, header_most, header_text, last_accepted_fits, last_accepted_text, nack_number};
+ghost use Rattle.wire.specs.Grammar.{null_most, packet_text, piggyback_fits, piggyback_most, piggyback_text};
+ghost use Rattle.wire.specs.Grammar.{small_most, terms_fit, text_most};
 ghost use Rattle.wire.specs.View.{data_below, digits_text, digit_text, marked_flag};
 
 use network::graph::has;
-use network::units::{NodeId, Term};
+use network::units::Term;
 use phy::packet::{Packet, Piggyback};
 use text::overlay::Overlay;
 
@@ -36,14 +38,11 @@ fn put_last_accepted(over: &mut Overlay, last: Option<Term>)
     }
 }
 
-fn put_nack(over: &mut Overlay, nack: Option<Term>)
-    requires { (nack_fits nack ≡ true) × Room over.old.at number_most }
-    ensures { Lays small_most (spelled (nack_number nack)) over.old over.new }
+// The term of a NACK, or 0 where there is none.
+fn nack_number(nack: Option<Term>) -> u64
+    ensures { result ≡ nack_number nack }
 {
-    match nack {
-        None => put_small(over, 0),
-        Some(t) => put_small(over, t.0),
-    }
+    nack.map_or(0, |t| t.0)
 }
 
 // Flag i, behind the bracket or a comma.
@@ -53,7 +52,7 @@ fn put_flag(over: &mut Overlay, set: u64, i: usize)
 {
     let mark = if i == 0 { b'[' } else { b',' };
     over.put(mark);
-    if has(set, NodeId(i)) {
+    if has(set, i) {
         over.put_word(b"true");
     } else {
         over.put_word(b"false");
@@ -135,7 +134,7 @@ fn put_header(over: &mut Overlay, packet: Packet, flags: usize)
     over.put_word(b",\"flags_bitmap\":");
     put_flags(over, packet.flags_bitmap, flags);
     over.put_word(b",\"nack_term\":");
-    put_nack(over, packet.nack_term);
+    put_small(over, nack_number(packet.nack_term));
     over.put_word(b",\"sender\":");
     put_small(over, packet.sender.0 as u64);
 }

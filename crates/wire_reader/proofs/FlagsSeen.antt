@@ -1,42 +1,38 @@
 -- The flags that a loop has read so far, and those that are still to be read. Assumes nothing.
 use Prim.Native.Nat.{ℕ, zero, suc, ◌+◌, ◌^◌, ◌≤◌, ◌<◌}
 use mathlib.Core.Path.{◌≡◌, refl, sym, ap, ap₂, ◌∙◌}
-use mathlib.Core.Bool.{Bool, true, false, cond}
+use mathlib.Core.Bool.{Bool, false, cond}
 use Rattle.std.specs.Prelude.{Option, None, Some}
 use mathlib.Core.List.{List, [], ◌∷◌, ◌++◌, append_assoc}
 use native.Mathlib.Numerals.{add-one}
 use native.Mathlib.Omega.{arith}
 use lib.Dec.{leb}
-use lib.ListN.{length, get_or, drop, length-append, get_or-append}
+use lib.ListN.{length, get_or, length-append, get_or-append}
 use lib.Seq.{get_or_at}
 use Rattle.config.specs.Limits.{max_nodes, min_nodes}
 use Rattle.network.specs.Graph.{set_of}
 use Rattle.network.proofs.Sets.{set_of_cong, set_of_lt}
 use Rattle.text.specs.Text.{ascii}
-use Rattle.wire_reader.specs.Reader.{Reader, give, onward, ◌>>=◌, flag, flags_in, counted}
-use Rattle.wire_reader.specs.View.{ValueAt, WordAt}
-use Rattle.wire_reader.proofs.Words.{bind_reads, bind_none, or_first, or_second}
-use Rattle.wire_reader.proofs.Places.{value_none, value_some, word_missing, word_passed}
+use Rattle.wire_reader.specs.Reader.{Reader, behind, behind_word, give, onward, ◌>>=◌, ◌or_else◌, flag, flags_in, counted}
+use Rattle.wire_reader.proofs.Words.{bind_reads, bind_none}
 
 -- flags in front of those that are found
 abbrev onto : List Bool → Option (List Bool × List ℕ) → Option (List Bool × List ℕ)
 onto seen None = None
 onto seen (Some (fs, t)) = Some (seen ++ fs, t)
 
--- After i flags, from the place `at` up to the place `next`: their set, and at most `left` flags behind them.
-pub record Seen (text : List ℕ) (at i set next : ℕ) : Type 0 where
+-- After i flags of a text: their set, and at most `left` flags in the rest of it.
+pub record Seen (text : List ℕ) (i set : ℕ) (rest : List ℕ) : Type 0 where
   pub seen : List Bool
   pub left : ℕ
   pub size : length seen ≡ i
   pub few : i + left ≡ max_nodes
   pub is : set ≡ set_of i (λ j. get_or seen j false)
-  pub goes_on : flags_in max_nodes (drop at text) ≡ onto seen (flags_in left (drop next text))
-  pub inside : next ≤ length text
+  pub goes_on : flags_in max_nodes text ≡ onto seen (flags_in left rest)
 
-pub none_seen : (text : List ℕ) (at : ℕ) → at ≤ length text → Seen text at 0 0 at
+pub none_seen : (text : List ℕ) → Seen text 0 0 text
 unfolding set_of
-none_seen text at h =
-    record { seen = []; left = max_nodes; size = refl; few = refl; is = refl; goes_on = same (flags_in max_nodes (drop at text)); inside = h }
+none_seen text = record { seen = []; left = max_nodes; size = refl; few = refl; is = refl; goes_on = same (flags_in max_nodes text) }
   where
     same : (o : Option (List Bool × List ℕ)) → o ≡ onto [] o
     same None = refl
@@ -52,30 +48,30 @@ set_more seen f i set size is =
     (is ∙ set_of_cong i (λ j h. sym (get_or-append seen (f ∷ []) false j (omega arith))))
     (sym (get_or_at seen f [] false i size)))
 
-pub set_below : {text : List ℕ} {at i set next : ℕ} → Seen text at i set next → set < 2 ^ i
+pub set_below : {text : List ℕ} {i set : ℕ} {rest : List ℕ} → Seen text i set rest → set < 2 ^ i
 set_below {i = i} {set = set} s = rw s.is (set_of_lt i (λ j. get_or s.seen j false))
 
--- ---- one flag of those that are still to be read, at the place `next`
+-- ---- one flag of those that are still to be read
 
-flag_none : (left : ℕ) (t : List ℕ) → flag t ≡ None → flags_in left t ≡ None
+flag_none : (left : ℕ) (t : List ℕ) → None ≡ flag t → flags_in left t ≡ None
 unfolding flags_in
 flag_none zero t e = refl
-flag_none (suc left) t e = bind_none _ _ _ e
+flag_none (suc left) t e = bind_none _ _ _ (sym e)
 
--- the place behind it, with the bracket or without
-module _ (left next : ℕ) {text : List ℕ} {end : ℕ} {f : Bool} (e : flag (drop next text) ≡ Some (f, drop end text)) where
-  flag_last : {b : ℕ} → WordAt (ascii "]") text end (Some b) → flags_in (suc left) (drop next text) ≡ Some (f ∷ [], drop b text)
-  unfolding flags_in give
-  flag_last bracket = bind_reads _ _ _ e ∙ or_first _ _ _ (word_passed _ bracket)
+-- behind it the bracket, or none
+module _ (left : ℕ) (rest : List ℕ) {end : List ℕ} {f : Bool} (e : Some (f, end) ≡ flag rest) where
+  flag_last : {t : List ℕ} → Some t ≡ behind (ascii "]") end → flags_in (suc left) rest ≡ Some (f ∷ [], t)
+  unfolding flags_in behind_word ◌or_else◌ ◌>>=◌ give
+  flag_last bracket = simp (sym e, sym bracket)
 
-  flag_alone : WordAt (ascii "]") text end None → WordAt (ascii ",") text end None → flags_in (suc left) (drop next text) ≡ None
-  unfolding flags_in
-  flag_alone bracket comma = bind_reads _ _ _ e ∙ or_second _ _ _ (word_missing _ bracket) ∙ word_missing _ comma
+  flag_alone : None ≡ behind (ascii "]") end → None ≡ behind (ascii ",") end → flags_in (suc left) rest ≡ None
+  unfolding flags_in behind_word ◌or_else◌ ◌>>=◌
+  flag_alone bracket comma = simp (sym e, sym bracket, sym comma)
 
-  flag_before : {b : ℕ} → WordAt (ascii "]") text end None → WordAt (ascii ",") text end (Some b)
-      → flags_in (suc left) (drop next text) ≡ (flags_in left >>= λ fs. give (f ∷ fs)) (drop b text)
-  unfolding flags_in
-  flag_before bracket comma = bind_reads _ _ _ e ∙ or_second _ _ _ (word_missing _ bracket) ∙ word_passed _ comma
+  flag_before : {t : List ℕ} → None ≡ behind (ascii "]") end → Some t ≡ behind (ascii ",") end
+      → flags_in (suc left) rest ≡ (flags_in left >>= λ fs. give (f ∷ fs)) t
+  unfolding flags_in behind_word ◌or_else◌ ◌>>=◌
+  flag_before bracket comma = simp (sym e, sym bracket, sym comma)
 
 -- in front of the others
 onto_more : (seen : List Bool) (f : Bool) (r : Reader (List Bool)) (t : List ℕ) → onto seen ((r >>= λ fs. give (f ∷ fs)) t) ≡ onto (seen ++ f ∷ []) (r t)
@@ -88,18 +84,18 @@ onto_more seen f r t = case (r t)
 
 -- ---- what the loop makes of it
 
-module _ {text : List ℕ} {at i set next : ℕ} (s : Seen text at i set next) where
+module _ {text : List ℕ} {i set : ℕ} {rest : List ℕ} (s : Seen text i set rest) where
   -- what reads on finds none
-  reads_none : flags_in s.left (drop next text) ≡ None → ValueAt (flags_in max_nodes >>= counted) text at None
-  reads_none e = value_none (bind_none _ _ _ (s.goes_on ∙ ap (onto s.seen) e))
+  reads_none : flags_in s.left rest ≡ None → None ≡ (flags_in max_nodes >>= counted) text
+  reads_none e = sym (bind_none _ _ _ (s.goes_on ∙ ap (onto s.seen) e))
 
-  pub flag_missing : flag (drop next text) ≡ None → ValueAt (flags_in max_nodes >>= counted) text at None
-  flag_missing e = reads_none (flag_none s.left (drop next text) e)
+  pub flag_missing : None ≡ flag rest → None ≡ (flags_in max_nodes >>= counted) text
+  flag_missing e = reads_none (flag_none s.left rest e)
 
   -- after the most flags no other may follow
-  pub flags_full : max_nodes ≤ i → ValueAt (flags_in max_nodes >>= counted) text at None
+  pub flags_full : max_nodes ≤ i → None ≡ (flags_in max_nodes >>= counted) text
   unfolding flags_in
-  flags_full h = reads_none (let full : s.left ≡ 0 = omega (arith, s.few) in ap (λ (left : ℕ). flags_in left (drop next text)) full)
+  flags_full h = reads_none (let full : s.left ≡ 0 = omega (arith, s.few) in ap (λ (left : ℕ). flags_in left rest) full)
 
   -- one flag fewer is left
   fewer : i < max_nodes → (left : ℕ) × (s.left ≡ suc left)
@@ -109,18 +105,18 @@ module _ {text : List ℕ} {at i set next : ℕ} (s : Seen text at i set next) w
       case zero e = absurd (omega arith)
       case (suc l) e = (l, refl)
 
-  known : (l : ℕ) → s.left ≡ suc l → {o : Option (List Bool × List ℕ)} → flags_in (suc l) (drop next text) ≡ o → flags_in s.left (drop next text) ≡ o
-  known l p q = ap (λ (left : ℕ). flags_in left (drop next text)) p ∙ q
+  known : (l : ℕ) → s.left ≡ suc l → {o : Option (List Bool × List ℕ)} → flags_in (suc l) rest ≡ o → flags_in s.left rest ≡ o
+  known l p q = ap (λ (left : ℕ). flags_in left rest) p ∙ q
 
-  module _ (more : i < max_nodes) {f : Bool} {end : ℕ} (e : flag (drop next text) ≡ Some (f, drop end text)) where
+  module _ (more : i < max_nodes) {f : Bool} {end : List ℕ} (e : Some (f, end) ≡ flag rest) where
     -- neither the bracket nor a comma stands behind it
-    pub flag_ends : WordAt (ascii "]") text end None → WordAt (ascii ",") text end None → ValueAt (flags_in max_nodes >>= counted) text at None
-    flag_ends bracket comma = let l = fewer more in reads_none (known l.0 l.1 (flag_alone l.0 next e bracket comma))
+    pub flag_ends : None ≡ behind (ascii "]") end → None ≡ behind (ascii ",") end → None ≡ (flags_in max_nodes >>= counted) text
+    flag_ends bracket comma = let l = fewer more in reads_none (known l.0 l.1 (flag_alone l.0 rest e bracket comma))
 
     -- a comma, and the next flag
-    pub flag_follows : {set' b : ℕ} → set' ≡ set + cond f (2 ^ i) 0 → WordAt (ascii "]") text end None → WordAt (ascii ",") text end (Some b)
-        → Seen text at (i + 1) set' b
-    flag_follows {b = b} grown bracket comma =
+    pub flag_follows : {set' : ℕ} {t : List ℕ} → set' ≡ set + cond f (2 ^ i) 0 → None ≡ behind (ascii "]") end → Some t ≡ behind (ascii ",") end
+        → Seen text (i + 1) set' t
+    flag_follows {t = t} grown bracket comma =
         let l = fewer more in
         record {
           seen = s.seen ++ f ∷ [];
@@ -128,27 +124,19 @@ module _ {text : List ℕ} {at i set next : ℕ} (s : Seen text at i set next) w
           size = length-append s.seen (f ∷ []) ∙ ap (λ (n : ℕ). n + 1) s.size;
           few = omega (arith, s.few, l.1);
           is = grown ∙ set_more s.seen f i set s.size s.is;
-          goes_on =
-              s.goes_on ∙ ap (onto s.seen) (known l.0 l.1 (flag_before l.0 next e bracket comma))
-              ∙ onto_more s.seen f (flags_in l.0) (drop b text);
-          inside = comma.inside;
+          goes_on = s.goes_on ∙ ap (onto s.seen) (known l.0 l.1 (flag_before l.0 rest e bracket comma)) ∙ onto_more s.seen f (flags_in l.0) t;
         }
 
     -- the bracket: all flags are read, and counted
-    pub flags_end : {set' b : ℕ} → set' ≡ set + cond f (2 ^ i) 0 → WordAt (ascii "]") text end (Some b) →
-        {found : Option ((ℕ × ℕ) × ℕ)} → found ≡ cond (leb min_nodes (i + 1)) (Some ((set', i + 1), b)) None → ValueAt (flags_in max_nodes >>= counted) text at found
+    pub flags_end : {set' : ℕ} {t : List ℕ} → set' ≡ set + cond f (2 ^ i) 0 → Some t ≡ behind (ascii "]") end
+        → ◌≡◌ {A = Option ((ℕ × ℕ) × List ℕ)} (cond (leb min_nodes (i + 1)) (Some ((set', i + 1), t)) None) ((flags_in max_nodes >>= counted) text)
     unfolding counted
-    flags_end {set'} {b} grown bracket {found} q = case (leb min_nodes (i + 1)) q (all ∙ counts)
+    flags_end {set'} {t} grown bracket = sym (all ∙ counts)
       where
-        all : (flags_in max_nodes >>= counted) (drop at text) ≡ counted (s.seen ++ f ∷ []) (drop b text)
-        all = let l = fewer more in bind_reads _ _ _ (s.goes_on ∙ ap (onto s.seen) (known l.0 l.1 (flag_last l.0 next e bracket)))
+        all : (flags_in max_nodes >>= counted) text ≡ counted (s.seen ++ f ∷ []) t
+        all = let l = fewer more in bind_reads _ _ _ (s.goes_on ∙ ap (onto s.seen) (known l.0 l.1 (flag_last l.0 rest e bracket)))
 
-        counts : counted (s.seen ++ f ∷ []) (drop b text) ≡ cond (leb min_nodes (i + 1)) (Some ((set', i + 1), drop b text)) None
+        counts : counted (s.seen ++ f ∷ []) t ≡ cond (leb min_nodes (i + 1)) (Some ((set', i + 1), t)) None
         counts =
             let size : length (s.seen ++ f ∷ []) ≡ i + 1 = length-append s.seen (f ∷ []) ∙ ap (λ (n : ℕ). n + 1) s.size in
-            rw size (ap (λ (x : ℕ). cond (leb min_nodes (i + 1)) (Some ((x, i + 1), drop b text)) None) (sym (grown ∙ set_more s.seen f i set s.size s.is)))
-
-        case : (c : Bool) → found ≡ cond c (Some ((set', i + 1), b)) None
-            → (flags_in max_nodes >>= counted) (drop at text) ≡ cond c (Some ((set', i + 1), drop b text)) None → ValueAt (flags_in max_nodes >>= counted) text at found
-        case true q r = rw q (value_some r bracket.inside)
-        case false q r = rw q (value_none r)
+            rw size (ap (λ (x : ℕ). cond (leb min_nodes (i + 1)) (Some ((x, i + 1), t)) None) (sym (grown ∙ set_more s.seen f i set s.size s.is)))

@@ -14,7 +14,6 @@ use Rattle.config.specs.declared.refusal.Refusal.{Refusal}
 use Rattle.config.specs.Limits.{min_nodes, max_nodes, max_terms}
 use Rattle.network.specs.Graph.{set_of}
 use Rattle.network.proofs.Sets.{and_both}
-use Rattle.phy.specs.declared.packet.Piggyback.{Piggyback}
 use Rattle.phy.specs.declared.packet.Packet.{Packet}
 use Rattle.text.proofs.Overlays.{front_is}
 use Rattle.text.specs.Text.{ascii, spelled, spelled_in}
@@ -25,11 +24,11 @@ use Rattle.wire.specs.Writing.{writing}
 use Rattle.wire_reader.specs.Reading.{nothing_behind, reading, ExactlyTheTexts, WhatIsWrittenIsRead, WhatIsReadIsWritten, TextsTellApart}
 use Rattle.wire_reader.specs.declared.fields.Header.{Header}
 use Rattle.wire_reader.specs.declared.fields.Body.{Body}
-use Rattle.wire.proofs.Fitting.{fitting, has_text_lem}
+use Rattle.wire.proofs.Fitting.{fitting, has_text_lem, nack_low}
 use Rattle.wire_reader.proofs.Words.{word_reads, bind_reads, field_reads, Only, give_finds, word_finds, bind_finds, field_finds}
 use Rattle.wire_reader.proofs.Digits.{stops, number_reads, number_only}
 use Rattle.wire_reader.proofs.Flags.{flags_read, flags_only}
-use Rattle.wire_reader.proofs.Parts.{last_accepted_reads, last_accepted_only, nack_low, nack_number_lem, nack_fits_lem, number_nack, data_reads, data_only, piggyback_reads, piggyback_only}
+use Rattle.wire_reader.proofs.Parts.{last_accepted_reads, last_accepted_only, nack_number_lem, nack_fits_lem, number_nack, data_reads, data_only, piggyback_reads, piggyback_only}
 
 -- ---- which packets have a text, as facts
 

@@ -2,7 +2,7 @@
 pub mod Digits
 pub mod Flags
 pub mod FlagsSeen
+pub mod Fronts
 pub mod Laws
 pub mod Parts
-pub mod Places
 pub mod Words

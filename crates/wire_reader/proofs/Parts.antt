@@ -48,10 +48,6 @@ last_accepted_only =
 
 -- ---- a NACK
 
-pub nack_low : (asked : Option Term) → nack_fits asked ≡ true → nack_number asked < max_terms
-nack_low None fits = omega arith
-nack_low (Some t) fits = ltb-true t.0 max_terms (and_both (leb 1 t.0) (ltb t.0 max_terms) fits).1
-
 pub nack_number_lem : (asked : Option Term) → nack_fits asked ≡ true → nack (nack_number asked) ≡ asked
 nack_number_lem None fits = refl
 nack_number_lem (Some t) fits = case t.0 fits

@@ -60,6 +60,11 @@ infixr 10 ◌>>◌
 infixr 5 ◌or_else◌
 -- ---- the values
 
+-- a digit of base 10
+unfoldable pub decimal_digit : Reader ℕ
+decimal_digit [] = None
+decimal_digit (b ∷ t) = cond (ltb (digit b) 10) (Some (digit b, t)) None
+
 -- n, where it is below the bound
 unfoldable pub below : ℕ → ℕ → Reader ℕ
 below bound n t = cond (ltb n bound) (Some (n, t)) None

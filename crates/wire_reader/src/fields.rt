@@ -1,9 +1,8 @@
-// A packet's text read from the front: what stands at a place, and the place behind it.
-ghost use Rattle.std.specs.Prelude.{◌≡◌, cond, ◌+◌, ◌≤◌, ◌<◌, ◌^◌, leb, ltb, length, get_or, Some, None};
+// A packet's text read from the front: each reader answers the value that stands there, and the rest of the text behind it.
+ghost use Rattle.std.specs.Prelude.{◌≡◌, cond, ◌+◌, ◌<◌, ◌^◌, leb, Some, None, IfSome, option_copied};
 ghost use Rattle.config.specs.Limits.{max_nodes, max_terms, min_nodes};
-ghost use Rattle.text.specs.Numeral as Numeral;
 ghost use Rattle.wire_reader.specs.Reader as Spec;
-ghost use Rattle.wire_reader.specs.View.{ValueAt, WordAt, current_term_of};
+ghost use Rattle.wire_reader.specs.View.{seen};
 
 use config::limits::{MAX_NODES, MAX_TERMS, MIN_NODES};
 use network::units::{NodeId, Term};
@@ -33,73 +32,65 @@ pub struct Body {
     pub piggyback: Option<Piggyback>,
 }
 
-// The place behind a word, if the word stands at this place.
-fn word(word: &[u8], text: &[u8], at: usize) -> Option<usize>
-    requires { at ≤ length text.now }
-    ensures { WordAt word.now text.now at result }
+// What stands behind a word, if the word is at the front. Inlined, as a call for each word takes longer.
+#[inline(always)]
+fn word<'a>(word: &[u8], text: &'a [u8]) -> Option<&'a [u8]>
+    ensures { option_copied result ≡ Spec.behind word.now text.now }
 {
-    if text[at..].starts_with(word) {
-        Some(at + word.len())
-    } else {
-        None
-    }
+    text.strip_prefix(word)
 }
 
-// The digit at a place, 16 where there is none.
-fn digit_at(text: &[u8], at: usize) -> u64
-    ensures { result ≡ Numeral.digit (get_or text.now at 0) }
+// A digit of base 10.
+fn decimal_digit(text: &[u8]) -> Option<(u64, &[u8])>
+    ensures reads { seen result ≡ Spec.decimal_digit text.now }
+    ensures small { IfSome result (λ d. d.0 < 10) }
 {
-    if at < text.len() { digit(text[at]) } else { 16 }
+    let (byte, rest) = text.split_first()?;
+    let d = digit(*byte)?;
+    if d < 10 { Some((d, rest)) } else { None }
 }
 
-// The number, if it is below the bound.
-fn below(bound: u64, n: u64, next: usize) -> Option<(u64, usize)>
-    ensures { result ≡ cond (ltb n bound) (Some (n, next)) None }
+// A number below the bound that has been read.
+#[tactic(auto, unfolding(crate::specs::Reader::below))]
+fn below(bound: u64, n: u64, rest: &[u8]) -> Option<(u64, &[u8])>
+    ensures { seen result ≡ Spec.below bound n rest.now }
 {
-    if n < bound { Some((n, next)) } else { None }
+    if n < bound { Some((n, rest)) } else { None }
 }
 
 // A number below the bound, of one digit or two.
-fn number(bound: u64, text: &[u8], at: usize) -> Option<(u64, usize)>
-    requires { at ≤ length text.now }
-    ensures { ValueAt (Spec.number bound) text.now at result }
+fn number(bound: u64, text: &[u8]) -> Option<(u64, &[u8])>
+    ensures { seen result ≡ Spec.number bound text.now }
 {
-    let first = digit_at(text, at);
-    if 10 <= first {
-        return None;
-    }
+    let (first, rest) = decimal_digit(text)?;
     if first == 0 {
-        return below(bound, 0, at + 1);
+        return below(bound, 0, rest);
     }
-    let second = digit_at(text, at + 1);
-    if 10 <= second {
-        return below(bound, first, at + 1);
+    match decimal_digit(rest) {
+        None => below(bound, first, rest),
+        Some((second, behind)) => below(bound, 10 * first + second, behind),
     }
-    below(bound, 10 * first + second, at + 2)
 }
 
-// A last accepted term or `null`, behind a label.
-fn last_accepted(label: &[u8], text: &[u8], at: usize) -> Option<(Option<Term>, usize)>
-    requires { at ≤ length text.now }
-    ensures { ValueAt (Spec.behind_word label.now Spec.last_accepted) text.now at result }
+// A last accepted term or `null`.
+fn last_accepted(text: &[u8]) -> Option<(Option<Term>, &[u8])>
+    ensures { seen result ≡ Spec.last_accepted text.now }
 {
-    let start = word(label, text, at)?;
-    if let Some(next) = word(b"null", text, start) {
-        return Some((None, next));
+    if let Some(rest) = word(b"null", text) {
+        return Some((None, rest));
     }
-    let (t, next) = number(TERMS, text, start)?;
-    Some((Some(Term(t)), next))
+    let (t, rest) = number(TERMS, text)?;
+    Some((Some(Term(t)), rest))
 }
 
-fn flag(text: &[u8], at: usize) -> Option<(bool, usize)>
-    requires { at ≤ length text.now }
-    ensures { ValueAt (Spec.flag) text.now at result }
+fn flag(text: &[u8]) -> Option<(bool, &[u8])>
+    ensures { seen result ≡ Spec.flag text.now }
 {
-    if let Some(next) = word(b"true", text, at) {
-        return Some((true, next));
+    if let Some(rest) = word(b"true", text) {
+        return Some((true, rest));
     }
-    let next = word(b"false", text, at)?;
-    Some((false, next))
+    let rest = word(b"false", text)?;
+    Some((false, rest))
 }
 
 // The set with node i in it if its flag is true.
@@ -111,53 +102,48 @@ fn with_flag(set: u64, i: usize, flag: bool) -> u64
 }
 
 // The set of n flags, if there are at least two.
-fn counted(set: u64, n: u64, next: usize) -> Option<((u64, u64), usize)>
-    ensures { result ≡ cond (leb min_nodes n) (Some ((set, n), next)) None }
+fn counted(set: u64, n: u64, rest: &[u8]) -> Option<((u64, u64), &[u8])>
+    ensures { seen result ≡ cond (leb min_nodes n) (Some ((set, n), rest.now)) None }
 {
     if MIN_NODES <= n {
-        Some(((set, n), next))
+        Some(((set, n), rest))
     } else {
         None
     }
 }
 
 // Flags up to the closing bracket.
-fn flags_in(text: &[u8], at: usize) -> Option<((u64, u64), usize)>
-    requires { at ≤ length text.now }
-    ensures { ValueAt (Spec.◌>>=◌ (Spec.flags_in max_nodes) Spec.counted) text.now at result }
+fn flags_in(text: &[u8]) -> Option<((u64, u64), &[u8])>
+    ensures { seen result ≡ Spec.◌>>=◌ (Spec.flags_in max_nodes) Spec.counted text.now }
 {
     let mut set = 0u64;
-    let mut next = at;
+    let mut rest = text;
     // By the node's number: how many flags there are is known at the bracket alone.
     for i in 0..MAX_NODES {
-        let (f, end) = flag(text, next)?;
+        let (f, end) = flag(rest)?;
         set = with_flag(set, i, f);
-        if let Some(behind) = word(b"]", text, end) {
+        if let Some(behind) = word(b"]", end) {
             return counted(set, i as u64 + 1, behind);
         }
-        next = word(b",", text, end)?;
+        rest = word(b",", end)?;
     }
     None
 }
 
-// 2 to 32 flags in brackets, behind a label.
-fn flags(label: &[u8], text: &[u8], at: usize) -> Option<((u64, u64), usize)>
-    requires { at ≤ length text.now }
-    ensures { ValueAt (Spec.behind_word label.now Spec.flags) text.now at result }
+// 2 to 32 flags in brackets.
+fn flags(text: &[u8]) -> Option<((u64, u64), &[u8])>
+    ensures { seen result ≡ Spec.flags text.now }
 {
-    let start = word(label, text, at)?;
-    let next = word(b"[", text, start)?;
-    flags_in(text, next)
+    flags_in(word(b"[", text)?)
 }
 
-// Data, empty or that of the term, behind a label.
-fn data(label: &[u8], term: Term, text: &[u8], at: usize) -> Option<(Option<Term>, usize)>
-    requires { (term.0 < max_terms) × (at ≤ length text.now) }
-    ensures { ValueAt (Spec.behind_word label.now (Spec.data_of term)) text.now at result }
+// Data, empty or that of the term.
+fn data(term: Term, text: &[u8]) -> Option<(Option<Term>, &[u8])>
+    requires { term.0 < max_terms }
+    ensures { seen result ≡ Spec.data_of term text.now }
 {
-    let start = word(label, text, at)?;
-    if let Some(next) = word(b"[]", text, start) {
-        return Some((None, next));
+    if let Some(rest) = word(b"[]", text) {
+        return Some((None, rest));
     }
     let mut own = [0u8; DATA_SIZE];
     let mut over = Overlay {
@@ -166,8 +152,8 @@ fn data(label: &[u8], term: Term, text: &[u8], at: usize) -> Option<(Option<Term
     };
     put_data(&mut over, Some(term));
     let size = over.at;
-    let next = word(&own[..size], text, start)?;
-    Some((Some(term), next))
+    let rest = word(&own[..size], text)?;
+    Some((Some(term), rest))
 }
 
 // 0 is none.
@@ -177,42 +163,32 @@ fn nack(n: u64) -> Option<Term>
     if n == 0 { None } else { Some(Term(n)) }
 }
 
-// A piggyback's term and data, or `null` and no data, behind a label.
-fn piggyback(label: &[u8], text: &[u8], at: usize) -> Option<(Option<Piggyback>, usize)>
-    requires { at ≤ length text.now }
-    ensures { ValueAt (Spec.behind_word label.now Spec.piggyback) text.now at result }
+// A piggyback's term and data, or `null` and no data.
+fn piggyback(text: &[u8]) -> Option<(Option<Piggyback>, &[u8])>
+    ensures { seen result ≡ Spec.piggyback text.now }
 {
-    let start = word(label, text, at)?;
-    if let Some(next) = word(b"null,\"piggyback_data\":[]", text, start) {
-        return Some((None, next));
+    if let Some(rest) = word(b"null,\"piggyback_data\":[]", text) {
+        return Some((None, rest));
     }
-    let (t, middle) = number(TERMS, text, start)?;
-    let (d, next) = data(b",\"piggyback_data\":", Term(t), text, middle)?;
+    let (t, middle) = number(TERMS, text)?;
+    let (d, rest) = data(Term(t), word(b",\"piggyback_data\":", middle)?)?;
     let again = Piggyback {
         term: Term(t),
         data: d,
     };
-    Some((Some(again), next))
+    Some((Some(again), rest))
 }
 
-// A number below the bound, behind a label.
-fn labelled_number(label: &[u8], bound: u64, text: &[u8], at: usize) -> Option<(u64, usize)>
-    requires { at ≤ length text.now }
-    ensures { ValueAt (Spec.behind_word label.now (Spec.number bound)) text.now at result }
+// The fields up to the sender.
+pub fn read_header(text: &[u8]) -> Option<(Header, &[u8])>
+    ensures reads { seen result ≡ Spec.header text.now }
+    ensures small { IfSome result (λ h. h.0.current_term.0 < max_terms) }
 {
-    let next = word(label, text, at)?;
-    number(bound, text, next)
-}
-
-// The fields up to the sender, from the text's start on.
-pub fn read_header(text: &[u8]) -> Option<(Header, usize)>
-    ensures { ValueAt Spec.header text.now 0 result × (current_term_of result < max_terms) }
-{
-    let (current, a) = labelled_number(b"{\"current_term\":", TERMS, text, 0)?;
-    let (last, b) = last_accepted(b",\"last_accepted_term\":", text, a)?;
-    let ((set, n), c) = flags(b",\"flags_bitmap\":", text, b)?;
-    let (asked, d) = labelled_number(b",\"nack_term\":", TERMS, text, c)?;
-    let (sender, next) = labelled_number(b",\"sender\":", n, text, d)?;
+    let (current, rest) = number(TERMS, word(b"{\"current_term\":", text)?)?;
+    let (last, rest) = last_accepted(word(b",\"last_accepted_term\":", rest)?)?;
+    let ((set, n), rest) = flags(word(b",\"flags_bitmap\":", rest)?)?;
+    let (asked, rest) = number(TERMS, word(b",\"nack_term\":", rest)?)?;
+    let (sender, rest) = number(n, word(b",\"sender\":", rest)?)?;
     let header = Header {
         current_term: Term(current),
         last_accepted_term: last,
@@ -221,20 +197,20 @@ pub fn read_header(text: &[u8]) -> Option<(Header, usize)>
         nack_term: nack(asked),
         sender: NodeId(sender as usize),
     };
-    Some((header, next))
+    Some((header, rest))
 }
 
 // The fields behind the sender, and the closing brace.
-pub fn read_body(current: Term, text: &[u8], at: usize) -> Option<(Body, usize)>
-    requires { (current.0 < max_terms) × (at ≤ length text.now) }
-    ensures { ValueAt (Spec.body current) text.now at result }
+pub fn read_body(current: Term, text: &[u8]) -> Option<(Body, &[u8])>
+    requires { current.0 < max_terms }
+    ensures { seen result ≡ Spec.body current text.now }
 {
-    let (own, a) = data(b",\"proposal_data\":", current, text, at)?;
-    let (again, b) = piggyback(b",\"piggyback_term\":", text, a)?;
-    let next = word(b"}", text, b)?;
+    let (own, rest) = data(current, word(b",\"proposal_data\":", text)?)?;
+    let (again, rest) = piggyback(word(b",\"piggyback_term\":", rest)?)?;
+    let rest = word(b"}", rest)?;
     let body = Body {
         proposal_data: own,
         piggyback: again,
     };
-    Some((body, next))
+    Some((body, rest))
 }

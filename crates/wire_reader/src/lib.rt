@@ -6,7 +6,7 @@ mod fields;
 ghost use Rattle.std.specs.Prelude.{◌≡◌};
 ghost use Rattle.wire_reader.specs.Reader as Spec;
 ghost use Rattle.wire_reader.specs.Reading.{reading};
-ghost use Rattle.wire_reader.specs.View.{ValueAt};
+ghost use Rattle.wire_reader.specs.View.{seen};
 
 use config::refusal::Refusal;
 use fields::{Body, Header, read_body, read_header};
@@ -27,21 +27,22 @@ fn packet_of(header: Header, body: Body) -> Packet
     }
 }
 
-// The packet at the start of a text and its number of flags, and the place behind it.
-fn packet(text: &[u8]) -> Option<((Packet, u64), usize)>
-    ensures { ValueAt Spec.packet text.now 0 result }
+// The packet at the front of a text and its number of flags, and the rest behind it.
+fn packet(text: &[u8]) -> Option<((Packet, u64), &[u8])>
+    ensures { seen result ≡ Spec.packet text.now }
 {
     let (header, middle) = read_header(text)?;
-    let (body, end) = read_body(header.current_term, text, middle)?;
-    Some(((packet_of(header, body), header.flags), end))
+    let (body, rest) = read_body(header.current_term, middle)?;
+    Some(((packet_of(header, body), header.flags), rest))
 }
 
 // Reads a packet's text, which begins and ends with the buffer: the packet and its number of flags.
+#[tactic(auto, unfolding(crate::specs::Reading::reading))]
 pub fn read_packet(text: &[u8]) -> Result<(Packet, u64), Refusal>
     ensures { result ≡ reading text.now }
 {
     match packet(text) {
-        Some((read, end)) if end == text.len() => Ok(read),
+        Some((read, rest)) if rest.is_empty() => Ok(read),
         _ => Err(Refusal::NoText),
     }
 }

@@ -1,21 +1,15 @@
 use Rattle.std.proofs.Common.{arith}
 use Rattle.config.specs.Limits.{max_nodes}
 use Rattle.text.specs.Text.{ascii}
-use Rattle.text.proofs.Overlays.{each_none, each_more, each_all, reach, ◌then◌}
+use Rattle.text.proofs.Overlays.{each_none, each_more, each_all, ◌then◌}
 use Rattle.wire.proofs.Arrays.{flags_each}
 use Rattle.wire.proofs.put.put_flags.Goals as goal
 
 pub loop-i-init : goal.loop-i-init
 loop-i-init c = each_none
 
-pub put_flag-requires : goal.put_flag-requires
-put_flag-requires c = (omega arith, omega (arith, reach c.loop-i.invariant.laid, c.requires))
-
 pub loop-i-preserved : goal.loop-i-preserved
 loop-i-preserved c = each_more c.loop-i.invariant (omega arith) c.put_flag.ensures
-
-pub put-requires : goal.put-requires
-put-requires c = omega (arith, reach c.loop-i.invariant.laid, c.requires)
 
 pub returns : goal.returns
 unfolding ascii

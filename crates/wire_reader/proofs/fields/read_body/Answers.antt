@@ -1,28 +1,31 @@
-use Rattle.std.proofs.Common.{◌∙◌}
+use Rattle.std.proofs.Common.{sym}
 use Rattle.text.specs.Text.{ascii}
-use Rattle.wire_reader.specs.Reader.{body, give}
-use Rattle.wire_reader.proofs.Places.{field_found, field_missing, value_none, value_some, word_missing, word_passed}
+use Rattle.wire_reader.specs.Reader.{◌>>=◌, behind_word, give, body}
 use Rattle.wire_reader.proofs.fields.read_body.Goals as goal
 
+pub returns-in_err-word : goal.returns-in_err-word
+unfolding body behind_word ascii
+returns-in_err-word c = simp (c.from_residual.ensures, sym c.in_err-word.ensures)
+
 pub returns-in_err-own : goal.returns-in_err-own
-unfolding body ascii
-returns-in_err-own c = rw c.from_residual.ensures (value_none (field_missing _ _ _ c.in_err-own.ensures))
+unfolding body behind_word ◌>>=◌ ascii
+returns-in_err-own c = simp (c.from_residual-in_err-own.ensures, sym c.in_ok-word.ensures, sym c.in_err-own.ensures)
+
+pub returns-in_err-word-2 : goal.returns-in_err-word-2
+unfolding body behind_word ◌>>=◌ ascii
+returns-in_err-word-2 c = simp (c.from_residual-in_err-word-2.ensures, sym c.in_ok-word.ensures, sym c.in_ok-own.ensures, sym c.in_err-word-2.ensures)
 
 pub returns-in_err-again : goal.returns-in_err-again
-unfolding body ascii
+unfolding body behind_word ◌>>=◌ ascii
 returns-in_err-again c =
-    rw c.from_residual-in_err-again.ensures
-    (value_none (field_found _ _ _ c.in_ok-own.ensures ∙ field_missing _ _ _ c.in_err-again.ensures))
+    simp (c.from_residual-in_err-again.ensures, sym c.in_ok-word.ensures, sym c.in_ok-own.ensures, sym c.in_ok-word-2.ensures, sym c.in_err-again.ensures)
 
-pub returns-in_err-next : goal.returns-in_err-next
-unfolding body ascii
-returns-in_err-next c =
-    rw c.from_residual-in_err-next.ensures
-    (value_none
-    (field_found _ _ _ c.in_ok-own.ensures ∙ field_found _ _ _ c.in_ok-again.ensures ∙ word_missing _ c.in_err-next.ensures))
+pub returns-in_err-rest : goal.returns-in_err-rest
+unfolding body behind_word ◌>>=◌ ascii
+returns-in_err-rest c =
+    simp (c.from_residual-in_err-rest.ensures, sym c.in_ok-word.ensures, sym c.in_ok-own.ensures, sym c.in_ok-word-2.ensures, sym c.in_ok-again.ensures, sym c.in_err-rest.ensures)
 
 pub returns : goal.returns
-unfolding body ascii give
+unfolding body behind_word ◌>>=◌ give ascii
 returns c =
-    let brace = c.in_ok-next.ensures in
-    value_some (field_found _ _ _ c.in_ok-own.ensures ∙ field_found _ _ _ c.in_ok-again.ensures ∙ word_passed _ brace) brace.inside
+    simp (sym c.in_ok-word.ensures, sym c.in_ok-own.ensures, sym c.in_ok-word-2.ensures, sym c.in_ok-again.ensures, sym c.in_ok-rest.ensures)

@@ -1,63 +1,63 @@
-use Rattle.std.proofs.Common.{◌<◌, ◌∙◌, arith}
-use Rattle.config.specs.Limits.{max_terms}
+use Rattle.std.proofs.Common.{sym}
 use Rattle.text.specs.Text.{ascii}
-use Rattle.wire_reader.specs.Reader.{give, header, number}
-use Rattle.wire_reader.proofs.Words.{word_finds}
+use Rattle.wire_reader.specs.Reader.{◌>>=◌, behind_word, give, header}
 use Rattle.wire_reader.proofs.Digits.{number_only}
-use Rattle.wire_reader.proofs.Places.{field_found, field_missing, value_none, value_some}
 use Rattle.wire_reader.proofs.fields.read_header.Goals as goal
 
-pub returns-in_err-current : goal.returns-in_err-current
-unfolding header ascii
-returns-in_err-current c = rw c.from_residual.ensures (value_none (field_missing _ _ _ c.in_err-current.ensures), omega arith)
+pub returns-in_err-word-clause-reads : goal.returns-in_err-word-clause-reads
+unfolding header behind_word ◌>>=◌ ascii
+returns-in_err-word-clause-reads c =
+    simp (c.from_residual.ensures, sym c.in_err-word.ensures)
 
-pub returns-in_err-last : goal.returns-in_err-last
-unfolding header ascii
-returns-in_err-last c =
-    rw c.from_residual-in_err-last.ensures
-    (value_none (field_found _ _ _ c.in_ok-current.ensures ∙ field_missing _ _ _ c.in_err-last.ensures), omega arith)
+pub returns-in_err-current-clause-reads : goal.returns-in_err-current-clause-reads
+unfolding header behind_word ◌>>=◌ ascii
+returns-in_err-current-clause-reads c =
+    simp (c.from_residual-in_err-current.ensures, sym c.in_ok-word.ensures, sym c.in_err-current.ensures)
 
-pub returns-in_err-set : goal.returns-in_err-set
-unfolding header ascii
-returns-in_err-set c =
-    rw c.from_residual-in_err-set.ensures (
-      value_none
-          (field_found _ _ _ c.in_ok-current.ensures ∙ field_found _ _ _ c.in_ok-last.ensures
-          ∙ field_missing _ _ _ c.in_err-set.ensures),
-      omega arith,
-    )
+pub returns-in_err-word-2-clause-reads : goal.returns-in_err-word-2-clause-reads
+unfolding header behind_word ◌>>=◌ ascii
+returns-in_err-word-2-clause-reads c =
+    simp (c.from_residual-in_err-word-2.ensures, sym c.in_ok-word.ensures, sym c.in_ok-current.ensures, sym c.in_err-word-2.ensures)
 
-pub returns-in_err-asked : goal.returns-in_err-asked
-unfolding header ascii
-returns-in_err-asked c =
-    rw c.from_residual-in_err-asked.ensures (
-      value_none
-          (field_found _ _ _ c.in_ok-current.ensures ∙ field_found _ _ _ c.in_ok-last.ensures
-          ∙ field_found _ _ _ c.in_ok-set.ensures ∙ field_missing _ _ _ c.in_err-asked.ensures),
-      omega arith,
-    )
+pub returns-in_err-last-clause-reads : goal.returns-in_err-last-clause-reads
+unfolding header behind_word ◌>>=◌ ascii
+returns-in_err-last-clause-reads c =
+    simp (c.from_residual-in_err-last.ensures, sym c.in_ok-word.ensures, sym c.in_ok-current.ensures, sym c.in_ok-word-2.ensures, sym c.in_err-last.ensures)
 
-pub returns-in_err-sender : goal.returns-in_err-sender
-unfolding header ascii
-returns-in_err-sender c =
-    rw c.from_residual-in_err-sender.ensures (
-      value_none
-          (field_found _ _ _ c.in_ok-current.ensures ∙ field_found _ _ _ c.in_ok-last.ensures
-          ∙ field_found _ _ _ c.in_ok-set.ensures ∙ field_found _ _ _ c.in_ok-asked.ensures
-          ∙ field_missing _ _ _ c.in_err-sender.ensures),
-      omega arith,
-    )
+pub returns-in_err-word-3-clause-reads : goal.returns-in_err-word-3-clause-reads
+unfolding header behind_word ◌>>=◌ ascii
+returns-in_err-word-3-clause-reads c =
+    simp (c.from_residual-in_err-word-3.ensures, sym c.in_ok-word.ensures, sym c.in_ok-current.ensures, sym c.in_ok-word-2.ensures, sym c.in_ok-last.ensures, sym c.in_err-word-3.ensures)
 
-pub returns : goal.returns
-unfolding header ascii give
-returns c =
-    -- the current term is below 64
-    let low : c.in_ok-current.current < max_terms =
-    word_finds _ (number max_terms) (λ n t u. n < max_terms) (λ t n u e. (number_only max_terms t n u e).0) _ _ _ c.in_ok-current.ensures.right in
-    let from = c.in_ok-sender.ensures in
-    rw c.nack.ensures (
-      value_some
-          (field_found _ _ _ c.in_ok-current.ensures ∙ field_found _ _ _ c.in_ok-last.ensures
-          ∙ field_found _ _ _ c.in_ok-set.ensures ∙ field_found _ _ _ c.in_ok-asked.ensures ∙ field_found _ _ _ from) from.inside,
-      low,
-    )
+pub returns-in_err-set-clause-reads : goal.returns-in_err-set-clause-reads
+unfolding header behind_word ◌>>=◌ ascii
+returns-in_err-set-clause-reads c =
+    simp (c.from_residual-in_err-set.ensures, sym c.in_ok-word.ensures, sym c.in_ok-current.ensures, sym c.in_ok-word-2.ensures, sym c.in_ok-last.ensures, sym c.in_ok-word-3.ensures, sym c.in_err-set.ensures)
+
+pub returns-in_err-word-4-clause-reads : goal.returns-in_err-word-4-clause-reads
+unfolding header behind_word ◌>>=◌ ascii
+returns-in_err-word-4-clause-reads c =
+    simp (c.from_residual-in_err-word-4.ensures, sym c.in_ok-word.ensures, sym c.in_ok-current.ensures, sym c.in_ok-word-2.ensures, sym c.in_ok-last.ensures, sym c.in_ok-word-3.ensures, sym c.in_ok-set.ensures, sym c.in_err-word-4.ensures)
+
+pub returns-in_err-asked-clause-reads : goal.returns-in_err-asked-clause-reads
+unfolding header behind_word ◌>>=◌ ascii
+returns-in_err-asked-clause-reads c =
+    simp (c.from_residual-in_err-asked.ensures, sym c.in_ok-word.ensures, sym c.in_ok-current.ensures, sym c.in_ok-word-2.ensures, sym c.in_ok-last.ensures, sym c.in_ok-word-3.ensures, sym c.in_ok-set.ensures, sym c.in_ok-word-4.ensures, sym c.in_err-asked.ensures)
+
+pub returns-in_err-word-5-clause-reads : goal.returns-in_err-word-5-clause-reads
+unfolding header behind_word ◌>>=◌ ascii
+returns-in_err-word-5-clause-reads c =
+    simp (c.from_residual-in_err-word-5.ensures, sym c.in_ok-word.ensures, sym c.in_ok-current.ensures, sym c.in_ok-word-2.ensures, sym c.in_ok-last.ensures, sym c.in_ok-word-3.ensures, sym c.in_ok-set.ensures, sym c.in_ok-word-4.ensures, sym c.in_ok-asked.ensures, sym c.in_err-word-5.ensures)
+
+pub returns-in_err-sender-clause-reads : goal.returns-in_err-sender-clause-reads
+unfolding header behind_word ◌>>=◌ ascii
+returns-in_err-sender-clause-reads c =
+    simp (c.from_residual-in_err-sender.ensures, sym c.in_ok-word.ensures, sym c.in_ok-current.ensures, sym c.in_ok-word-2.ensures, sym c.in_ok-last.ensures, sym c.in_ok-word-3.ensures, sym c.in_ok-set.ensures, sym c.in_ok-word-4.ensures, sym c.in_ok-asked.ensures, sym c.in_ok-word-5.ensures, sym c.in_err-sender.ensures)
+
+pub returns-clause-reads : goal.returns-clause-reads
+unfolding header behind_word ◌>>=◌ give ascii
+returns-clause-reads c =
+    simp (c.nack.ensures, sym c.in_ok-word.ensures, sym c.in_ok-current.ensures, sym c.in_ok-word-2.ensures, sym c.in_ok-last.ensures, sym c.in_ok-word-3.ensures, sym c.in_ok-set.ensures, sym c.in_ok-word-4.ensures, sym c.in_ok-asked.ensures, sym c.in_ok-word-5.ensures, sym c.in_ok-sender.ensures)
+
+pub returns-clause-small : goal.returns-clause-small
+returns-clause-small c = (number_only _ _ _ _ (sym c.in_ok-current.ensures)).0

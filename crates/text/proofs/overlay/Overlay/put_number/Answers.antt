@@ -1,11 +1,8 @@
 use Rattle.std.proofs.Common.{arith}
-use Rattle.text.proofs.Digits.{spells_none, spells_room, spells_more, spells_all}
+use Rattle.text.proofs.Digits.{spells_room, spells_more, spells_all}
 use Rattle.text.proofs.Overlays.{bounded}
 use Rattle.text.proofs.Spelling.{spelled_short}
 use Rattle.text.proofs.overlay.Overlay.put_number.Goals as goal
-
-pub loop-rest-init : goal.loop-rest-init
-loop-rest-init c = spells_none c.args.n
 
 pub overflow_sub-first-in-loop-rest : goal.overflow_sub-first-in-loop-rest
 overflow_sub-first-in-loop-rest c = spells_room c.loop-rest.invariant (omega arith) (omega arith)
