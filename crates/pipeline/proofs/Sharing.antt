@@ -1,5 +1,7 @@
 -- What the nodes share between rounds: states by node, starts by term, and the terms that a commit answers. Assumes nothing.
 use Rattle.std.specs.Prelude.{Option, Some, None}
+use Rattle.std.specs.Bool.{then_some}
+use Rattle.std.specs.Option.{is_some}
 use Prim.Native.Nat.{ℕ, zero, suc, ◌+◌, ◌≤◌, ◌<◌}
 use mathlib.Core.Path.{◌≡◌, refl, sym, ap, ap₂, subst, ◌∙◌}
 use mathlib.Core.Bool.{Bool, true, false, cond, not, ◌&&◌}
@@ -9,6 +11,7 @@ use native.Mathlib.Nat.{le_refl, add-zero, eq-or-lt_of_le}
 use native.Mathlib.Numerals.{add-one}
 use native.Mathlib.Omega.{arith}
 use lib.Count.{ones}
+use mir.Val.{bool_byte}
 use lib.Dec.{eqb, ltb}
 use lib.ListN.{length, get_or, set, take, replicate, length-set, get_or-eq_default}
 use lib.Seq.{take-suc-set, get_or-take, get_or-set_other}
@@ -35,7 +38,7 @@ use Rattle.pipeline.specs.declared.records.History.{History}
 use Rattle.pipeline.specs.declared.records.ProposalRecord.{ProposalRecord}
 use Rattle.pipeline.specs.declared.records.Recorded.{Recorded}
 use Rattle.pipeline.specs.Round.{Shared, recorded, state_of, one_nack, latest, one_piggyback, take_turn, turns}
-use Rattle.pipeline.specs.View.{Recording, Records, Started, Starts, AllKept, Sharing, TakesTurn, no_record, record_of, records_of, starts_of, outside, state_in, states_of, shared_of, without_piggyback}
+use Rattle.pipeline.specs.View.{Recording, Records, with_start, Started, Starts, AllKept, Sharing, TakesTurn, no_record, record_of, records_of, starts_of, outside, state_in, states_of, shared_of, without_piggyback}
 use Rattle.pipeline.proofs.Recordings.{start_set, start_count}
 use Rattle.pipeline.proofs.StateTables.{table_fits}
 use Rattle.pipeline.specs.declared.carry.Carry.{Carry}
@@ -169,6 +172,15 @@ starts_none c v h s =
       records = refl;
     }
 
+-- the term of a proposal that is made now has a place, and its start is kept
+pub proposal_fits : (b : Bool) (c : ℕ) → c + cond b 1 0 ≤ max_terms → last_below max_terms (then_some b (record { 0 = c }))
+proposal_fits true c room = omega (arith, room)
+proposal_fits false c room = tt
+
+pub starts_now : (b : Bool) (c : ℕ) (v : Slot) (h : History) → Started c h → c + cond b 1 0 ≤ length h.starts → Starts c b v.0 h (with_start (then_some b (record { 0 = c })) v h)
+starts_now true c v h s room = starts_one c v h s (omega (arith, room))
+starts_now false c v h s room = starts_none c v.0 h s
+
 -- the records are what they were
 pub starts_records : {c slot : ℕ} {p : Bool} {h h' : History} (m : ℕ) → Starts c p slot h h' → records_of m h' ≡ records_of m h
 unfolding records_of
@@ -205,6 +217,14 @@ kept_set {c} {d} {n} {b} {s} j a up most room k =
     go : {q : PaxosState} (x : Bool) → Kept c q → Kept d (cond x s q)
     go true old = k
     go false old = kept_mono up most old
+
+pub nack_counted : (n : Option Term) → bool_byte (is_some n) ≡ one_nack n
+nack_counted None = refl
+nack_counted (Some t) = refl
+
+pub made_counted : (b : Bool) → bool_byte b ≡ cond b 1 0
+made_counted true = refl
+made_counted false = refl
 
 pub nack_at_most : (n : Option Term) → one_nack n ≤ 1
 nack_at_most None = omega arith

@@ -1,10 +1,11 @@
 -- The values that the code's structs and tables stand for, and what holds of them between turns.
-use Rattle.std.specs.Prelude.{ℕ, ◌+◌, ◌≤◌, ◌<◌, ◌≡◌, Bool, cond, leb, List, [], ◌∷◌, ◌++◌, length, get_or, map, replicate, take, Option, None}
+use Rattle.std.specs.Prelude.{ℕ, ◌+◌, ◌≤◌, ◌<◌, ◌≡◌, Bool, cond, leb, List, [], ◌∷◌, ◌++◌, length, get_or, map, replicate, set, take, Option, Some, None}
 use Rattle.config.specs.Limits.{max_nodes, max_terms, count_bound}
 use Rattle.random.specs.Table.{tabulate}
 use Rattle.network.specs.Graph.{has, count}
 use Rattle.network.specs.declared.units.NodeId.{NodeId}
 use Rattle.network.specs.declared.units.Slot.{Slot}
+use Rattle.network.specs.declared.units.Term.{Term}
 use Rattle.phy.specs.declared.packet.Packet.{Packet}
 use Rattle.phy.specs.declared.packet.Piggyback.{Piggyback}
 use Rattle.protocol.specs.declared.state.PaxosState.{PaxosState}
@@ -54,6 +55,11 @@ pub record Records (end : ℕ) (ts : List ℕ) (x : Recorded) (t : History) (r :
   pub recording : Recording r t'
   pub records : records_of r.count t' ≡ record_all (starts_of t) end ts (records_of x.count t)
   pub starts : t'.starts ≡ t.starts
+
+-- the history with the slot of a proposal, if one is made
+abbrev pub with_start : Option Term → Slot → History → History
+with_start None slot t = t
+with_start (Some u) slot t = record { starts = set t.starts u.0 slot; records = t.records }
 
 -- starts from the counter on are 0
 pub record Started (c : ℕ) (t : History) : Type 0 where

@@ -12,9 +12,9 @@ use phy::packet::Piggyback;
 use protocol::state::PaxosState;
 
 // The nodes' Paxos states stand in a table with room for few nodes, for some, or for the most.
-pub const FEW_NODES: usize = 4;
+const FEW_NODES: usize = 4;
 
-pub const SOME_NODES: usize = 12;
+const SOME_NODES: usize = 12;
 
 // What the rounds carry besides the flood, the table of states and the history: how many proposals
 // were made, what is recorded, the piggyback for the next packet, and two counts.

@@ -1,5 +1,5 @@
-// The nodes' part of a round: the initiator's turn before the flood, the participants' turns after it, and the records of what they
-// commit.
+// The nodes' part of a round: the initiator's turn before the flood, the participants' turns after it, and the records of what
+// they commit.
 #![tactic(auto)]
 
 pub mod carry;

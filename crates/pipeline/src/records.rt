@@ -8,10 +8,12 @@ ghost use Rattle.pipeline.specs.View.{record_of, Recording, Records};
 ghost use Rattle.pipeline.specs.Round.{record_triple};
 
 use config::limits::MAX_TERMS;
+use network::graph::has;
 use network::members::members_of;
 use network::units::{Slot, Term};
 
-// How many records there are, and the set of the terms that are recorded.
+// How many records there are, and the set of the terms that are recorded. They are carried from round to round and no fields of
+// the history: a new run carries none over a history that a run before it has filled, and asks only for its starts to be cleared.
 #[derive(Clone, Copy)]
 pub struct Recorded {
     pub count: u64,
@@ -81,8 +83,7 @@ impl History {
         requires { Recording x self.old × (term.0 < max_terms) }
         ensures { Records «end».0 (term.0 ∷ []) x self.old result self.new }
     {
-        let t = term.0;
-        if (x.terms >> t) % 2 == 1 {
+        if has(x.terms, term.0 as usize) {
             return x;
         }
         self.add(x, term, end)

@@ -1,8 +1,9 @@
 // The nodes' part of a round, after ctsim's sim/paxos_pipeline.rs.
-ghost use Rattle.std.specs.Prelude.{◌≡◌, cond, ◌+◌, ◌≤◌, ◌<◌};
+ghost use Rattle.std.specs.Prelude.{◌≡◌, ◌<◌};
 ghost use Rattle.config.specs.Limits.{max_terms, count_bound};
-ghost use Rattle.pipeline.specs.Round.{one_nack, one_piggyback, latest};
-ghost use Rattle.pipeline.specs.View.{Started, Starts, MayPrepare, Prepares, MayTake, TakesTurn, MayProcess, Processes, replaced, without_piggyback};
+ghost use Rattle.protocol.specs.View.{last_below};
+ghost use Rattle.pipeline.specs.Round.{latest};
+ghost use Rattle.pipeline.specs.View.{with_start, MayPrepare, Prepares, MayTake, TakesTurn, MayProcess, Processes, replaced};
 
 use super::carry::Carry;
 use super::records::History;
@@ -19,29 +20,18 @@ pub struct PreparedRound {
     pub packet: Packet,
 }
 
-fn one_if(yes: bool) -> u64
-    ensures { result ≡ cond yes 1 0 }
-{
-    u64::from(yes)
-}
-
-fn one_nack(nack: Option<Term>) -> u64
-    ensures { result ≡ one_nack nack }
-{
-    u64::from(nack.is_some())
-}
-
 // Where a proposal is made now, its slot is kept.
-fn keep_start(history: &mut History, counter: u64, proposes: bool, slot: Slot)
-    requires { Started counter history.old × (counter + cond proposes 1 0 ≤ max_terms) }
-    ensures { Starts counter proposes slot.0 history.old history.new }
+fn keep_start(history: &mut History, proposal: Option<Term>, slot: Slot)
+    requires { last_below max_terms proposal }
+    ensures { history.new ≡ with_start proposal «slot» history.old }
 {
-    if proposes {
-        history.starts[counter as usize] = slot;
+    if let Some(term) = proposal {
+        history.starts[term.0 as usize] = slot;
     }
 }
 
-// `prepare_round`: the initiator's turn, the record of what it newly commits, and its packet.
+// `prepare_round`: the initiator's turn, the record of what it newly commits, and its packet. The states and the history stay two
+// borrows, here and below: in a struct of borrows each contract would need a clause more, that they are still those.
 pub fn prepare_round(
     x: Carry,
     states: &mut [PaxosState],
@@ -56,29 +46,17 @@ pub fn prepare_round(
 {
     let counter = x.counter;
     let proposes = counter < proposals;
-    let back = x.piggyback;
-    let turn = states[initiator.0].initiator_turn(initiator, n, counter, proposes, back);
+    let turn = states[initiator.0].initiator_turn(initiator, n, counter, proposes, x.piggyback);
     let packet = turn.packet;
-    let nack = packet.nack_term;
-    keep_start(history, counter, proposes, slot);
-    let before = x.recorded;
-    let recorded = history.record_all(before, turn.newly, slot);
-    PreparedRound {
-        carry: Carry {
-            counter: counter + one_if(proposes),
-            recorded,
-            piggyback: back,
-            nacks: x.nacks + one_nack(nack),
-            piggybacks: x.piggybacks,
-        },
-        packet,
-    }
-}
-
-fn one_piggyback(recovery: Option<Piggyback>) -> u64
-    ensures { result ≡ one_piggyback recovery }
-{
-    u64::from(recovery.is_some())
+    keep_start(history, proposes.then_some(Term(counter)), slot);
+    let recorded = history.record_all(x.recorded, turn.newly, slot);
+    let carry = Carry {
+        counter: counter + u64::from(proposes),
+        recorded,
+        nacks: x.nacks + u64::from(packet.nack_term.is_some()),
+        ..x
+    };
+    PreparedRound { carry, packet }
 }
 
 // The same piggyback, made anew. A copy would take its unused bytes along, in pieces that overlap, and the next turn's copy
@@ -111,15 +89,10 @@ fn recovered(y: Carry, recovery: Option<Piggyback>) -> Carry
     requires { y.piggybacks < count_bound }
     ensures { result ≡ replaced recovery y }
 {
-    let recorded = y.recorded;
-    let before = y.piggyback;
-    let counted = y.piggybacks + one_piggyback(recovery);
     Carry {
-        counter: y.counter,
-        recorded,
-        piggyback: latest(recovery, before),
-        nacks: y.nacks,
-        piggybacks: counted,
+        piggyback: latest(recovery, y.piggyback),
+        piggybacks: y.piggybacks + u64::from(recovery.is_some()),
+        ..y
     }
 }
 
@@ -136,26 +109,8 @@ fn take_turn(
     ensures { TakesTurn packet slot node x states.old history.old result states.new history.new }
 {
     let turn = states[node.0].participant_turn(node, packet);
-    let before = x.recorded;
-    let recorded = history.record_all(before, turn.newly, slot);
-    let recovery = turn.recovery;
-    let mut y = x;
-    y.recorded = recorded;
-    recovered(y, recovery)
-}
-
-// What the rounds carry, with no piggyback.
-fn cleared(x: Carry) -> Carry
-    ensures { result ≡ without_piggyback x }
-{
-    let recorded = x.recorded;
-    Carry {
-        counter: x.counter,
-        recorded,
-        piggyback: None,
-        nacks: x.nacks,
-        piggybacks: x.piggybacks,
-    }
+    let recorded = history.record_all(x.recorded, turn.newly, slot);
+    recovered(Carry { recorded, ..x }, turn.recovery)
 }
 
 // `process_round`: the turns of the nodes that took part, ascending.
@@ -171,7 +126,10 @@ pub fn process_round(
     requires { MayProcess n packet x states.old history.old }
     ensures { Processes n packet slot part x states.old history.old result states.new history.new }
 {
-    let mut y = cleared(x);
+    let mut y = Carry {
+        piggyback: None,
+        ..x
+    };
     let took = part & full_set(n);
     for j in members_of(took) {
         y = take_turn(y, states, history, packet, NodeId(j), slot);

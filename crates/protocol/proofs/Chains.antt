@@ -16,11 +16,11 @@ use Rattle.phy.specs.declared.packet.Packet.{Packet}
 use Rattle.protocol.specs.declared.state.PaxosState.{PaxosState}
 use Rattle.protocol.specs.declared.turns.Announced.{Announced}
 use Rattle.protocol.specs.Paxos.{Pending, State, held, union, voted, merge_votes_up_to, quorum, greatest_quorum, recovery, term_set}
-use Rattle.protocol.specs.Turns.{Initiated, counter_after, current_term_of, proposal_data_of, announce, initiator_turn}
-use Rattle.protocol.specs.View.{data_at, pending_of, view, last_below, data_below, proposal_below, back_below, Kept, Next, TermsBelow, Initiates}
+use Rattle.protocol.specs.Turns.{Initiated, counter_after, current_term_of, proposal_data_of, propose, with_proposal, announce, initiator_turn}
+use Rattle.protocol.specs.View.{data_at, pending_of, view, last_below, data_below, may_propose, proposal_below, back_below, Kept, Next, TermsBelow, Initiates}
 use Rattle.protocol.proofs.Places.{either}
 use Rattle.protocol.proofs.Sets.{union_assoc}
-use Rattle.protocol.proofs.Kept.{state_is, last_mono, pending_none, held_is, held_free}
+use Rattle.protocol.proofs.Kept.{state_is, kept_mono, last_mono, pending_none, held_is, held_free}
 use Rattle.protocol.proofs.Steps.{recovery_view}
 
 -- two steps, one after the other
@@ -107,6 +107,19 @@ counter_more false c = le_refl c
 pub proposal_below_lem : (b : Bool) (c : ℕ) → counter_after b c ≤ max_terms → proposal_below (counter_after b c) (current_term_of b c) (proposal_data_of b c)
 proposal_below_lem true c h = (omega arith, omega arith)
 proposal_below_lem false c h = tt
+
+pub may_propose_new : {s : PaxosState} (b : Bool) (c : ℕ) → Kept c s → counter_after b c ≤ max_terms → may_propose (proposal_data_of b c) s
+may_propose_new true c k room =
+    record { kept = kept_mono k.room (omega arith) k; term = omega arith; «data» = omega arith; free = held_free k c (le_refl c) }
+may_propose_new false c k room = tt
+
+pub proposed_below : (b : Bool) (c : ℕ) → last_below (counter_after b c) (proposal_data_of b c)
+proposed_below true c = omega arith
+proposed_below false c = tt
+
+pub proposed_is : (b : Bool) (i c : ℕ) (s : State) → with_proposal (proposal_data_of b c) i s ≡ propose b i c s
+proposed_is true i c s = refl
+proposed_is false i c s = refl
 
 -- the terms of the initiator's packet are below the counter
 pub packet_below : (i n c : ℕ) (b : Bool) (pb : Option Piggyback) (s : State) → counter_after b c ≤ max_terms →

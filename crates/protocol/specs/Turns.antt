@@ -25,6 +25,11 @@ abbrev pub propose : Bool → ℕ → ℕ → State → State
 propose true i c s = hold c (vote i) (Some (record { 0 = c })) s
 propose false i c s = s
 
+-- the same for the proposal that is made, or none
+abbrev pub with_proposal : Option Term → ℕ → State → State
+with_proposal None i s = s
+with_proposal (Some t) i s = hold t.0 (vote i) (Some t) s
+
 -- the current term: the new proposal's, else counter - 1 (0 at 0)
 abbrev pub current_term_of : Bool → ℕ → ℕ
 current_term_of true c = c

@@ -122,6 +122,11 @@ pub record MayHold (s : PaxosState) (t : ℕ) (d : Option Term) : Type 0 where
   pub «data» : data_below d
   pub free : held t (view s) ≡ false
 
+-- a new proposal, if there is one, may become pending
+abbrev pub may_propose : Option Term → PaxosState → Type 0
+may_propose None s = Unit {0}
+may_propose (Some t) s = MayHold s t.0 (Some t)
+
 -- the terms of a packet are below the counter c
 pub record TermsBelow (c : ℕ) (p : Packet) : Type 0 where
   pub last : last_below c p.last_accepted_term
@@ -129,11 +134,6 @@ pub record TermsBelow (c : ℕ) (p : Packet) : Type 0 where
   pub back : back_below c p.piggyback
 
 -- ---- what the turns give
-
--- the state s' is what f makes of s, and it is kept while the counter is c
-pub record Becomes (c : ℕ) (f : State → State) (s s' : PaxosState) : Type 0 where
-  pub kept : Kept c s'
-  pub is : view s' ≡ f (view s)
 
 -- the commit and the packet of the initiator's turn are those that f makes of the state
 pub record Announces (f : State → Initiated) (s : PaxosState) (r : Announced) (s' : PaxosState) : Type 0 where

@@ -10,6 +10,7 @@ ghost use Rattle.protocol.specs.View.{view, Kept, MayHold, Step, Commits, last_b
 use crate::bits::{union_of, up_to};
 use crate::state::PaxosState;
 use config::limits::MAX_TERMS;
+use network::graph::has;
 use network::members::members_of;
 use network::units::{NodeId, Term};
 use phy::packet::Piggyback;
@@ -28,24 +29,14 @@ fn is_quorum(votes: u64, own: u64, pending: u64, t: usize, n: usize) -> bool
     requires { (t < max_terms) × (leb (majority n) (size own) ≡ false) }
     ensures { result ≡ (has pending t && leb (majority n) (size votes)) }
 {
-    if votes == own {
-        return false;
-    }
-    if (pending >> t) % 2 == 0 {
-        return false;
-    }
-    is_majority(votes, n)
+    votes != own && has(pending, t) && is_majority(votes, n)
 }
 
 // Last accepted, risen to a term.
 fn raised(last: Option<Term>, term: Term) -> Option<Term>
     ensures { result ≡ raise term.0 last }
 {
-    let t = term.0;
-    match last {
-        None => Some(Term(t)),
-        Some(u) => Some(Term(if u.0 < t { t } else { u.0 })),
-    }
+    Some(Term(last.map_or(term.0, |u| u.0.max(term.0))))
 }
 
 impl PaxosState {
@@ -61,8 +52,7 @@ impl PaxosState {
         requires { Kept max_terms self.now × (term.0 < max_terms) }
         ensures { result ≡ held term.0 (view self.now) }
     {
-        let t = term.0;
-        (self.held_set() >> t) % 2 == 1
+        has(self.held_set(), term.0 as usize)
     }
 
     // One more than the last accepted term, 0 for none.
@@ -139,7 +129,7 @@ impl PaxosState {
     {
         let t = term.0;
         self.last_accepted = raised(self.last_accepted, term);
-        if (self.pending >> t) % 2 == 1 {
+        if has(self.pending, t as usize) {
             let end = u64::count_ones(self.logged) as usize;
             self.log[end] = term;
             self.pending -= 1u64 << t;
@@ -217,10 +207,7 @@ impl PaxosState {
         ensures { result ≡ votes_of ((view self.now).pending term.0) }
     {
         let t = term.0 as usize;
-        if MAX_TERMS <= t {
-            return 0;
-        }
-        if (self.pending >> t) % 2 == 0 {
+        if MAX_TERMS <= t || !has(self.pending, t) {
             return 0;
         }
         self.votes[t]

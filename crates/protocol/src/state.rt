@@ -9,10 +9,14 @@ use network::units::Term;
 
 // By term the votes, a set of nodes, and the term whose data it carries; the logged terms in commit order; the
 // set of the pending terms, that of the logged ones, and the last accepted term.
+// `Kept`, which the contracts here and in the turns ask, is no invariant of the type: it speaks of a counter that no state holds,
+// and `logged_term`, `logged_count` and the definitions take any state.
 #[derive(Clone, Copy)]
 pub struct PaxosState {
+    // Apart from the data, as the votes alone are gone through in vector steps (`merge_votes_up_to`, `others_voted`).
     pub votes: [u64; MAX_TERMS],
     pub data: [Option<Term>; MAX_TERMS],
+    // Of fixed room, as there is no heap. So many terms count as `logged` has, and no number beside it could differ.
     pub log: [Term; MAX_TERMS],
     pub pending: u64,
     pub logged: u64,

@@ -1,10 +1,10 @@
 // A node's turns, after what ctsim's sim/paxos_pipeline.rs does with one node: `prepare_round`
 // with the initiator, `process_round` with each node that took part.
-ghost use Rattle.std.specs.Prelude.{◌≡◌, ◌-◌, ◌<◌, ◌≤◌};
+ghost use Rattle.std.specs.Prelude.{◌≡◌, ◌<◌, ◌≤◌};
 ghost use Rattle.config.specs.Limits.{set_bits, max_terms};
 ghost use Rattle.protocol.specs.Paxos.{vote};
-ghost use Rattle.protocol.specs.Turns.{nack, counter_after, current_term_of, proposal_data_of, propose, announce, take_data, take_piggyback};
-ghost use Rattle.protocol.specs.View.{Kept, Step, Becomes, TermsBelow, MayInitiate, proposal_below, back_below, Announces, Initiates, Takes};
+ghost use Rattle.protocol.specs.Turns.{nack, with_proposal, announce, take_data, take_piggyback};
+ghost use Rattle.protocol.specs.View.{Kept, Step, TermsBelow, MayInitiate, last_below, may_propose, proposal_below, back_below, Announces, Initiates, Takes};
 
 use crate::bits::union_of;
 use crate::state::PaxosState;
@@ -26,7 +26,8 @@ pub struct Participation {
     pub recovery: Option<Piggyback>,
 }
 
-// The set of one node alone.
+// The set of one node alone. That its number is below SET_BITS is asked here and in the turns: a type of such numbers would ask
+// it of each caller where the number is made, as NodeId holds any.
 fn vote_of(node: NodeId) -> u64
     requires { node.0 < set_bits }
     ensures { result ≡ vote node.0 }
@@ -39,30 +40,6 @@ fn nack_of(gap: Option<Term>) -> Option<Term>
     ensures { result ≡ nack gap }
 {
     gap.filter(|t| t.0 != 0)
-}
-
-// The term before the counter, 0 at 0.
-fn term_before(counter: u64) -> u64
-    ensures { result ≡ counter - 1 }
-{
-    counter.saturating_sub(1)
-}
-
-// The current term: the new proposal's, else the one before the counter.
-fn current_term(counter: u64, proposes: bool) -> Term
-    ensures { result.0 ≡ current_term_of proposes counter }
-{
-    if proposes {
-        return Term(counter);
-    }
-    Term(term_before(counter))
-}
-
-// The data of the new proposal, or none.
-fn proposal_data(counter: u64, proposes: bool) -> Option<Term>
-    ensures { result ≡ proposal_data_of proposes counter }
-{
-    proposes.then_some(Term(counter))
 }
 
 impl PaxosState {
@@ -93,17 +70,18 @@ impl PaxosState {
     }
 
     // A new proposal, if one is made, becomes pending with the node's own vote.
-    fn propose(&mut self, node: NodeId, counter: u64, proposes: bool)
-        requires { Kept counter self.old × (counter_after proposes counter ≤ max_terms) × (node.0 < set_bits) }
-        ensures { Becomes (counter_after proposes counter) (propose proposes node.0 counter) self.old self.new }
+    fn propose(&mut self, node: NodeId, proposal: Option<Term>)
+        requires { may_propose proposal self.old × (node.0 < set_bits) }
+        ensures { Step (λ c. last_below c proposal) (with_proposal proposal node.0) self.old self.new }
     {
-        if proposes {
-            self.hold(Term(counter), vote_of(node), Some(Term(counter)));
+        if let Some(term) = proposal {
+            self.hold(term, vote_of(node), proposal);
         }
     }
 
     // The initiator's turn: `counter` is the number of proposals made before it, `proposes` says whether
-    // one is left to be made, and `piggyback` is what the round before it has set.
+    // one is left to be made, and `piggyback` is what the round before it has set. The counter is asked for beside the
+    // proposal: gaps are looked for below it, and where nothing is proposed the term before it is current.
     pub fn initiator_turn(
         &mut self,
         node: NodeId,
@@ -116,10 +94,10 @@ impl PaxosState {
         ensures { Initiates node.0 n counter proposes piggyback self.old result self.new }
     {
         let nack = nack_of(self.detect_gap(Term(counter)));
-        self.propose(node, counter, proposes);
-        let current = current_term(counter, proposes);
-        let data = proposal_data(counter, proposes);
-        self.announce(node, n, current, nack, data, piggyback)
+        let proposal = proposes.then_some(Term(counter));
+        self.propose(node, proposal);
+        let current = proposal.unwrap_or(Term(counter.saturating_sub(1)));
+        self.announce(node, n, current, nack, proposal, piggyback)
     }
 
     // Proposal data becomes pending.

@@ -14,7 +14,6 @@ use Rattle.network.specs.Graph.{has, set_of}
 use Rattle.network.proofs.Lowest.{has_zero}
 use Rattle.random.proofs.Tables.{is_tabulate}
 use Rattle.phy.specs.declared.node.Node.{Node}
-use Rattle.std.specs.Prelude.{None}
 use Rattle.phy.specs.declared.slot.Radios.{Radios}
 use Rattle.phy.specs.Node.{new, total, is_listening, is_flooding}
 use Rattle.phy.specs.Slot.{at, Standing}
@@ -53,8 +52,7 @@ module _ (n listening : ℕ) (few : n ≤ max_nodes) (all : listening ≡ 2 ^ n 
   abbrev new_radios : Radios
   new_radios =
       record {
-        listening = listening;
-        flooding = 0;
+        awake = record { listening = listening; flooding = 0 };
         slots_listen = 0;
         slots_flood = 0;
         slots_sleep = 0;

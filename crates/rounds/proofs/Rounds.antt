@@ -1,6 +1,6 @@
 -- One round of the code beside one of the definitions. Assumes nothing.
 use Prim.Native.Nat.{ℕ, ◌+◌, ◌*◌, ◌%◌, ◌≤◌, ◌<◌}
-use mathlib.Core.Path.{◌≡◌, sym, ap, ap₂, subst, subst⁻¹, ◌∙◌}
+use mathlib.Core.Path.{◌≡◌, sym, ap, ap₂, subst, ◌∙◌}
 use mathlib.Core.List.{List}
 use native.Mathlib.Nat.{mod-lt}
 use native.Mathlib.Omega.{arith}
@@ -11,14 +11,14 @@ use Rattle.phy.specs.declared.ci.Round.{Round}
 use Rattle.phy.specs.declared.slot.Radios.{Radios}
 use Rattle.phy.specs.declared.slot.Settings.{Settings}
 use Rattle.phy.specs.Round.{Flooded, length_limit, participants, took_part_of, round}
-use Rattle.phy.specs.View.{Tables, Sound, Stands, CanFlood, Rounded, as_setup}
+use Rattle.phy.specs.View.{Tables, Sound, Stands, Rounded, as_setup}
 use Rattle.phy.proofs.Nodes.{count_cong, ones_set_of}
 use Rattle.protocol.specs.declared.state.PaxosState.{PaxosState}
 use Rattle.pipeline.specs.declared.records.History.{History}
 use Rattle.pipeline.specs.declared.carry.Carry.{Carry}
 use Rattle.pipeline.specs.declared.round.PreparedRound.{PreparedRound}
 use Rattle.pipeline.specs.Round.{Prepared, prepare_round, process_round}
-use Rattle.pipeline.specs.View.{shared_of, MayPrepare, Prepares, MayProcess, Processes}
+use Rattle.pipeline.specs.View.{shared_of, Prepares, Processes}
 use Rattle.rules.specs.Accepted.{Accepted}
 use Rattle.rules.specs.Run.{Given, Running, prepared_in, flooded_in, run_round}
 use Rattle.rules.proofs.Rounds.{longest_few, took_part_few}
@@ -47,46 +47,10 @@ module _ {p : Plan} {k : ℕ} {x : Run} {w : Contents} {b₀ : List ℕ} {s₀ :
   abbrev longest : ℕ
   longest = length_limit p.config.round_slots p.network.diameter p.config.flood_repeats
 
-  pub may_prepare : MayPrepare p.network.graph.nodes p.config.num_proposals (record { 0 = k % p.network.graph.nodes }) x.carry w.states w.history
-  may_prepare =
-      record {
-        sharing = g₀.steady.sharing;
-        nacks = omega (arith, g₀.steady.nacks, early);
-        initiator = initiator_in;
-        two = ok.two;
-        nodes = ok.few;
-        most = ok.proposals;
-      }
-
-  pub can_flood : {y : Settings} {most : ℕ} → y ≡ settings_of p x.progress → most ≡ longest → CanFlood y most (k % p.network.graph.nodes) x.flood (lent_of w)
-  can_flood {y} {most} q e =
-      subst⁻¹ (λ (z : Settings). CanFlood z most (k % p.network.graph.nodes) x.flood (lent_of w)) q
-      (let few = longest_few p.config.round_slots p.network.diameter p.config.flood_repeats ok.round_slots ok.diameter_low ok.repeats_high in
-      record {
-        sound = sound_as p 0 x.progress g₀.steady.sound;
-        node = initiator_in;
-        early = omega (arith, e, few, g₀.steady.slots, early);
-        room = g₀.steady.room;
-        heard = given.heard;
-        source = g₀.steady.source;
-        first = b₀;
-        standing = s₀.standing;
-        stands = g₀.shows.standing;
-      })
-
   -- what the four calls of a round give
   module _ {prepared : PreparedRound} {b : List PaxosState} {t : History}
       (pr : Prepares p.network.graph.nodes p.config.num_proposals (record { 0 = k % p.network.graph.nodes }) x.flood.slot x.carry w.states w.history prepared b t)
     where
-      pub may_process : MayProcess p.network.graph.nodes prepared.packet prepared.carry b t
-      may_process =
-          record {
-            sharing = pr.sharing;
-            piggybacks = omega (arith, pr.piggybacks, g₀.steady.piggybacks, early);
-            nodes = ok.few;
-            below = pr.below;
-          }
-
       module _ {y : Settings} {most : ℕ} {flooded : Round} {l : Tables} {carry : Carry} {b' : List PaxosState} {t' : History} (q : y ≡ settings_of p x.progress) (e : most ≡ longest)
           (fl₀ : Rounded y p.network.graph.rows most (k % p.network.graph.nodes) x.flood (lent_of w) flooded l)
           (pc : Processes p.network.graph.nodes prepared.packet flooded.flood.slot flooded.part prepared.carry b t carry b' t')

@@ -56,10 +56,6 @@ module _ {p : Plan} {x : Run} {w : Contents} {b₀ : List ℕ} {s : Running} (u 
 pub kept_all : {heard : ℕ → Bool} {p : Plan} {k : ℕ} {x : Run} {w : Contents} → Steady heard p k x w → AllKept max_terms p.network.graph.nodes w.states
 kept_all u = record { room = u.sharing.kept.room; each = λ j h. kept_mono u.sharing.few (le_refl max_terms) (u.sharing.kept.each j h) }
 
--- the table of states keeps its size
-pub same_table : {heard : ℕ → Bool} {p : Plan} {k k' : ℕ} {x x' : Run} {w w' : Contents} → Steady heard p k x w → Steady heard p k' x' w' → length w.states ≡ length w'.states
-same_table u v = u.sharing.kept.room ∙ sym v.sharing.kept.room
-
 -- the progress is what snapshots show, and no more
 abbrev pub showing : ℕ → Run → Run
 showing m x = record { flood = x.flood; carry = x.carry; took_part = x.took_part; progress = m }
@@ -124,7 +120,7 @@ module _ {p : Plan} {k : ℕ} {x : Run} {w : Contents} {r : Played} {w' : Conten
   abbrev told : ℕ
   told = cond logs.complete 1 (cond (eqb r.run.carry.recorded.count p.config.num_proposals && ltb (p.config.num_proposals + 5 * p.network.diameter) k) 2 (cond (ltb (p.config.num_proposals + extra_rounds) k) 3 0))
 
-  pub moves_on : {end : Option End} → end_number end ≡ told → MovesOn p k x w (record { run = showing logs.shortest r.run; round = r.round; ended = end }) w'
+  pub moves_on : {end : Option End} → end_number end ≡ told → MovesOn p k x w (record { played = record { run = showing logs.shortest r.run; round = r.round }; ended = end }) w'
   unfolding end_after
   moves_on e =
       record {
@@ -211,7 +207,7 @@ module _ {p : Plan} {most : ℕ} {b₀ : List ℕ} where
         abbrev next : Running
         next = run_round (planned p) k here
 
-        going : Going p (k + 1) r.run w' b₀ next
+        going : Going p (k + 1) r.played.run w' b₀ next
         going = m.going b₀ here u.going
 
         under : leb (planned p).limit here.standing.slot ≡ false
@@ -221,7 +217,7 @@ module _ {p : Plan} {most : ℕ} {b₀ : List ℕ} where
         end_is = m.ended b₀ here u.going
 
         -- the round that was run
-        ran : k ≡ most - 1 → Some r.round ≡ last_round (get_elem? next.rounds (most - 1))
+        ran : k ≡ most - 1 → Some r.played.round ≡ last_round (get_elem? next.rounds (most - 1))
         ran e =
             ap Some (m.round b₀ here u.going)
             ∙ sym (ap (λ (i : ℕ). last_round (get_elem? next.rounds i)) (sym (u.going.rounds ∙ e)) ∙ ap last_round (newest (planned p) k here))
@@ -234,13 +230,13 @@ module _ {p : Plan} {most : ℕ} {b₀ : List ℕ} where
             ∙ ap (λ (e : ℕ). record { running = next; ended = e }) (sym end_is)
 
         -- and it was not the last round that might be run
-        at_end : (end_number r.ended ≡ 0 → ⊥) → (k + 1 ≡ most → ⊥) → Goes p most (record { run = r.run; rounds = k + 1; last = None; ended = r.ended }) b₀ w'
+        at_end : (end_number r.ended ≡ 0 → ⊥) → (k + 1 ≡ most → ⊥) → Goes p most (record { run = r.played.run; rounds = k + 1; last = None; ended = r.ended }) b₀ w'
         at_end q other =
             goes_as (record { running = next; ended = end_number r.ended }) (run_is q) going.shows going.steady going.rounds
             (unrun next (k + 1) going.rounds (omega (arith, more, other))) refl (omega (arith, more))
 
         -- it was, whether an end came or not
-        at_last : k + 1 ≡ most → Goes p most (record { run = r.run; rounds = k + 1; last = Some r.round; ended = r.ended }) b₀ w'
+        at_last : k + 1 ≡ most → Goes p most (record { run = r.played.run; rounds = k + 1; last = Some r.played.round; ended = r.ended }) b₀ w'
         unfolding rounds_from
         at_last used =
             let none_left : most - (k + 1) ≡ 0 = omega (arith, used) in
@@ -255,14 +251,14 @@ module _ {p : Plan} {most : ℕ} {b₀ : List ℕ} where
             going.shows going.steady going.rounds (ran (omega (arith, used))) refl (omega (arith, more))
 
         -- an end came, or no round is left
-        pub at_stop : (end_number r.ended ≡ 0 → ⊥) ⊎ (k + 1 ≡ most) → Goes p most (record { run = r.run; rounds = k + 1; last = then_some (eqb (k + 1) most) r.round; ended = r.ended }) b₀ w'
+        pub at_stop : (end_number r.ended ≡ 0 → ⊥) ⊎ (k + 1 ≡ most) → Goes p most (record { run = r.played.run; rounds = k + 1; last = then_some (eqb (k + 1) most) r.played.round; ended = r.ended }) b₀ w'
         at_stop h = go (eqb (k + 1) most) refl
           where
-            go : (b : Bool) → eqb (k + 1) most ≡ b → Goes p most (record { run = r.run; rounds = k + 1; last = then_some b r.round; ended = r.ended }) b₀ w'
+            go : (b : Bool) → eqb (k + 1) most ≡ b → Goes p most (record { run = r.played.run; rounds = k + 1; last = then_some b r.played.round; ended = r.ended }) b₀ w'
             go true e = at_last (eqb-true (k + 1) most e)
             go false e = let other = eqb-false (k + 1) most e in at_end (⊎_elim (λ q. q) (λ used. absurd (other used)) h) other
 
-        pub goes_on : end_number r.ended ≡ 0 → (k + 1 ≡ most → ⊥) → Underway p most (k + 1) r.run w' b₀ next
+        pub goes_on : end_number r.ended ≡ 0 → (k + 1 ≡ most → ⊥) → Underway p most (k + 1) r.played.run w' b₀ next
         goes_on z other =
             record {
               going = going;

@@ -8,6 +8,7 @@ use Rattle.random.specs.Reception.{Source}
 use Rattle.random.specs.declared.draws.Stream.{Stream}
 use Rattle.phy.specs.declared.slot.Settings.{Settings}
 use Rattle.phy.specs.declared.slot.Radios.{Radios}
+use Rattle.phy.specs.Round.{length_limit}
 use Rattle.phy.specs.View.{Tables, tables, Sound, Stands}
 use Rattle.protocol.specs.declared.state.PaxosState.{PaxosState}
 use Rattle.pipeline.specs.declared.records.History.{History}
@@ -40,6 +41,10 @@ settings_of p progress =
       progress = progress;
       rate = p.config.loss_rate;
     }
+
+-- and its length limit
+abbrev pub longest_of : Plan → ℕ
+longest_of p = length_limit p.config.round_slots p.network.diameter p.config.flood_repeats
 
 -- What the lent slices hold: the queue of the flooding nodes, the stream of the draws, the Paxos states, the history of the proposals, and
 -- the snapshots.
@@ -115,10 +120,10 @@ pub record Plays (p : Plan) (k : ℕ) (x : Run) (w : Contents) (r : Played) (w' 
 
 -- Round k was played, and it is known how far the logs are after it: so one round more can be played from r. Its end is the definitions' own.
 pub record MovesOn (p : Plan) (k : ℕ) (x : Run) (w : Contents) (r : Next) (w' : Contents) : Type 0 where
-  pub going : (b₀ : List ℕ) (s : Running) → Going p k x w b₀ s → Going p (k + 1) r.run w' b₀ (run_round (planned p) k s)
-  pub round : (b₀ : List ℕ) (s : Running) → Going p k x w b₀ s → r.round ≡ seen_round (past_in (planned p) k s)
+  pub going : (b₀ : List ℕ) (s : Running) → Going p k x w b₀ s → Going p (k + 1) r.played.run w' b₀ (run_round (planned p) k s)
+  pub round : (b₀ : List ℕ) (s : Running) → Going p k x w b₀ s → r.played.round ≡ seen_round (past_in (planned p) k s)
   pub ended : (b₀ : List ℕ) (s : Running) → Going p k x w b₀ s → end_number r.ended ≡ end_after (planned p) k (run_round (planned p) k s)
-  pub first : r.run.flood.first_stored ≡ x.flood.first_stored
+  pub first : r.played.run.flood.first_stored ≡ x.flood.first_stored
 
 -- ---- the logs
 

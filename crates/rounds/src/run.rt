@@ -1,16 +1,20 @@
 // The rounds of a run, up to its end.
-ghost use Rattle.std.specs.Prelude.{◌≡◌, cond, ◌&&◌, eqb, ltb, ◌+◌, ◌*◌, ◌≤◌};
+ghost use Rattle.std.specs.Prelude.{◌≡◌, cond, ◌&&◌, eqb, ltb, ◌+◌, ◌*◌, ◌≤◌, replicate};
 ghost use Rattle.config.specs.Limits.{max_nodes, max_terms, max_repeats, rounds_per_link, extra_rounds};
+ghost use Rattle.random.specs.Draws.{DrawNext};
+ghost use Rattle.phy.specs.Limits.{queue_size};
+ghost use Rattle.phy.specs.View.{tables, CanFlood, Rounded};
+ghost use Rattle.rules.specs.Accepted.{Accepted};
 ghost use Rattle.rules.specs.Answers.{end_number};
-ghost use Rattle.rounds.specs.Going.{settings_of, contents, SameTables, CanSurvey, Surveys, CanPlay, Plays, MovesOn, CanStart, CanGo, Goes, Stops, NewRadios, NewRun};
+ghost use Rattle.rounds.specs.Going.{planned, settings_of, longest_of, contents, SameTables, CanSurvey, Surveys, CanPlay, Plays, MovesOn, CanStart, CanGo, Goes, Stops, NewRadios, NewRun};
 
 use super::survey::{Surveyed, survey};
 use config::Config;
 use config::limits::{EXTRA_ROUNDS, MAX_NODES, ROUNDS_PER_LINK};
 use network::graph::full_set;
 use network::units::{NodeId, Slot};
-use phy::ci::{flood_identical_round, length_limit};
-use phy::slot::{QUEUE_SIZE, Radios, Settings};
+use phy::ci::{Round, flood_identical_round, length_limit};
+use phy::slot::{Awake, QUEUE_SIZE, Radios, Settings};
 use pipeline::carry::Carry;
 use pipeline::records::{History, Recorded};
 use pipeline::round::{prepare_round, process_round};
@@ -26,8 +30,8 @@ pub struct Plan {
     pub config: Config,
 }
 
-// What the rounds write to: the queue of the flooding nodes, the stream of the draws, and lent tables of the nodes' Paxos states, of
-// the proposals' history and of the snapshots.
+// What the rounds write to: the queue of the flooding nodes, the stream of the draws, and lent tables of the nodes' Paxos states,
+// of the proposals' history and of the snapshots.
 #[derive(Drop)]
 pub struct Workspace<'a> {
     pub queue: [u64; QUEUE_SIZE],
@@ -54,11 +58,10 @@ pub struct Played {
     pub round: SeenRound,
 }
 
-// One round more: where the run stands after it, what is seen of it, and the end that came with it, if one did.
+// One round more, and the end that came with it, if one did.
 #[derive(Clone, Copy)]
 pub struct Next {
-    pub run: Run,
-    pub round: SeenRound,
+    pub played: Played,
     pub ended: Option<End>,
 }
 
@@ -78,8 +81,10 @@ fn new_radios(n: usize) -> Radios
     ensures { NewRadios n result }
 {
     Radios {
-        listening: full_set(n),
-        flooding: 0,
+        awake: Awake {
+            listening: full_set(n),
+            flooding: 0,
+        },
         slots_listen: 0,
         slots_flood: 0,
         slots_sleep: 0,
@@ -144,7 +149,60 @@ fn end_after(proposals: u64, diameter: u64, complete: bool, records: u64, k: u64
     }
 }
 
-impl Workspace<'_> {
+// The flood of a round from this initiator, as the run stands.
+fn flood(
+    plan: &Plan,
+    x: Run,
+    initiator: NodeId,
+    queue: &mut [u64; QUEUE_SIZE],
+    stream: &mut Stream,
+    snapshots: &mut [u64],
+) -> Round
+    requires { Accepted (planned plan.now) × CanFlood (settings_of plan.now x.progress) (longest_of plan.now) initiator.0 x.flood
+        (tables queue.old stream.old snapshots.old) }
+    ensures { Rounded (settings_of plan.now x.progress) plan.now.network.graph.rows (longest_of plan.now) initiator.0 x.flood
+        (tables queue.old stream.old snapshots.old) result (tables queue.new stream.new snapshots.new) }
+{
+    let network = &plan.network;
+    let config = plan.config;
+    flood_identical_round(
+        settings_of(plan, x.progress),
+        &network.graph.rows,
+        length_limit(
+            config.round_slots,
+            network.diameter as u64,
+            config.flood_repeats,
+        ),
+        initiator,
+        x.flood,
+        queue,
+        stream,
+        snapshots,
+    )
+}
+
+impl<'a> Workspace<'a> {
+    // What a run of this seed writes to, over lent tables, before its first draw.
+    pub fn new(
+        seed: u64,
+        states: &'a mut [PaxosState],
+        history: &'a mut History,
+        snapshots: &'a mut [u64],
+    ) -> Workspace<'a>
+        ensures empty { (result.queue ≡ replicate queue_size 0) × DrawNext seed 0 result.stream }
+        ensures states { (result.states.ghost_name ≡ states.entry.ghost_name) × (result.states.now ≡ states.old) }
+        ensures history { (result.history.ghost_name ≡ history.entry.ghost_name) × (result.history.now ≡ history.old) }
+        ensures snapshots { (result.snapshots.ghost_name ≡ snapshots.entry.ghost_name) × (result.snapshots.now ≡ snapshots.old) }
+    {
+        Workspace {
+            queue: [0; QUEUE_SIZE],
+            stream: begin_draws(seed),
+            states,
+            history,
+            snapshots,
+        }
+    }
+
     // Round k: prepare, flood, process.
     fn run_round(&mut self, plan: &Plan, k: u64, x: Run) -> Played
         requires { CanPlay plan.now k x (contents self.old) }
@@ -152,38 +210,27 @@ impl Workspace<'_> {
         ensures tables { SameTables self.old self.new }
     {
         let n = plan.network.graph.nodes;
-        let config = plan.config;
-        let proposals = config.num_proposals;
         let initiator = NodeId((k % (n as u64)) as usize);
-        let slot = x.flood.slot;
         let prepared = prepare_round(
             x.carry,
             self.states,
             self.history,
             n,
-            proposals,
+            plan.config.num_proposals,
             initiator,
-            slot,
+            x.flood.slot,
         );
         let packet = prepared.packet;
-        let slots = config.round_slots;
-        let longest = length_limit(slots, plan.network.diameter as u64, config.flood_repeats);
-        let settings = settings_of(plan, x.progress);
-        let round = flood_identical_round(
-            settings,
-            &plan.network.graph.rows,
-            longest,
+        let Round { flood, part } = flood(
+            plan,
+            x,
             initiator,
-            x.flood,
             &mut self.queue,
             &mut self.stream,
             self.snapshots,
         );
-        let flood = round.flood;
-        let part = round.part;
-        let between = prepared.carry;
         let carry = process_round(
-            between,
+            prepared.carry,
             self.states,
             self.history,
             n,
@@ -195,7 +242,7 @@ impl Workspace<'_> {
             flood,
             carry,
             took_part: x.took_part + part.count_ones() as u64,
-            progress: x.progress,
+            ..x
         };
         Played {
             run,
@@ -218,21 +265,22 @@ impl Workspace<'_> {
         ensures tables { SameTables self.old self.new }
     {
         let proposals = plan.config.num_proposals;
-        let Played { mut run, round } = self.run_round(plan, k, x);
+        let mut played = self.run_round(plan, k, x);
         let seen = self.surveyed(plan.network.graph.nodes, proposals as usize);
-        run.progress = seen.shortest;
-        let records = run.carry.recorded.count;
+        played.run.progress = seen.shortest;
         let ended = end_after(
             proposals,
             plan.network.diameter as u64,
             seen.complete,
-            records,
+            played.run.carry.recorded.count,
             k,
         );
-        Next { run, round, ended }
+        Next { played, ended }
     }
 
-    // Rounds up to an end, at most so many. A round starts only below the slot limit.
+    // Rounds up to an end, at most so many. A round starts only below the slot limit. The loop of `play_again`, which compares
+    // each round with a file, is apart: as one with a closure, the closure would change the run and the workspace, and its
+    // contract say what stays between its calls (`Underway` here, `Comparing` there).
     fn play_rounds(&mut self, plan: &Plan, most: u64) -> Stopped
         requires { CanGo plan.now most (contents self.old) }
         ensures goes { Goes plan.now most result self.old.snapshots.now (contents self.new) }
@@ -251,14 +299,14 @@ impl Workspace<'_> {
                 };
             }
             let next = self.next_round(plan, k, x);
-            x = next.run;
+            x = next.played.run;
             let ended = next.ended;
             let rounds = k + 1;
             if ended.is_some() || rounds == most {
                 return Stopped {
                     run: x,
                     rounds,
-                    last: (rounds == most).then_some(next.round),
+                    last: (rounds == most).then_some(next.played.round),
                     ended,
                 };
             }
@@ -283,12 +331,5 @@ pub fn play(
     requires { CanStart plan.now most states.old history.old }
     ensures { Stops plan.now most result snapshots.old states.new history.new snapshots.new }
 {
-    let mut work = Workspace {
-        queue: [0; QUEUE_SIZE],
-        stream: begin_draws(plan.config.seed),
-        states,
-        history,
-        snapshots,
-    };
-    work.play_rounds(plan, most)
+    Workspace::new(plan.config.seed, states, history, snapshots).play_rounds(plan, most)
 }

@@ -14,13 +14,14 @@ use Rattle.network.proofs.Within.{first_no_lem, all_yes}
 use Rattle.metrics.specs.declared.summary.Summary.{Summary}
 use Rattle.config.specs.declared.Config.{Config}
 use Rattle.config.specs.declared.refusal.Refusal.{Refusal}
-use Rattle.rules.specs.Networks.{RowsOrTopology, network_questions}
+use Rattle.rules.specs.declared.networks.Network.{Network}
+use Rattle.rules.specs.Networks.{RowsOrTopology, network_questions, network_for}
 use Rattle.rules.specs.Questions.{config_questions, buffer_questions, run_questions, questions_for, refusal_for, run_refusal_for}
 use Rattle.rules.specs.Accepted.{MeasuredGraph, Accepted}
 use Rattle.rules.specs.Run.{Given, run}
 use Rattle.rules.specs.Entries.{summary_of, ran_with, given_as, given_for, outcome_of, outcome_for}
 use Rattle.rules.proofs.FirstNo.{both_none, either_no, config_facts, buffer_no, buffer_facts}
-use Rattle.rules.proofs.Found.{network_measured, network_no, network_yes}
+use Rattle.rules.proofs.Found.{network_measured, network_found, network_no, network_yes}
 
 -- the buffers are long enough
 pub record Roomy (logs records : List ℕ) : Type 0 where
@@ -44,6 +45,10 @@ accepts {graph} {n} {d} c graph_is e =
       proposals = q.proposals;
       interval = q.interval;
     }
+
+-- the network that was asked for
+pub network_accepts : (q : RowsOrTopology) (x : Network) (c : Config) → Ok x ≡ network_for q → first_no (config_questions c) ≡ None → Accepted (given_as x.graph.rows x.graph.nodes x.diameter c)
+network_accepts q x c e = accepts c (network_found q x e).measured
 
 -- what the questions of the network and of the configuration let pass
 pub accepted_for : (q : RowsOrTopology) (c : Config) → refusal_for q c ≡ None → Accepted (given_for q c)

@@ -1,5 +1,5 @@
 -- The rounds, the four ends and the run (rules 6.1, 6.2, 6.5, 6.6, 6.9 and 6.10).
-use Rattle.std.specs.Prelude.{ℕ, zero, suc, ◌+◌, ◌-◌, ◌*◌, Bool, true, false, cond, ◌&&◌, List, [], ◌∷◌, ◌++◌, leb, ltb, eqb, length, replicate, Option, None}
+use Rattle.std.specs.Prelude.{ℕ, zero, suc, ◌+◌, ◌-◌, ◌*◌, Bool, true, false, cond, ◌&&◌, List, [], ◌∷◌, ◌++◌, leb, ltb, eqb, length, replicate}
 use Rattle.config.specs.Limits.{rounds_per_link, extra_rounds, most_rounds}
 use Rattle.network.specs.Graph.{all}
 use Rattle.phy.specs.declared.packet.Packet.{Packet}

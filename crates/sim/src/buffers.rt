@@ -36,7 +36,8 @@ fn write_log(state: &PaxosState, node: NodeId, logs: &mut [u8])
     logs[LOG_COUNTS + i] = count as u8;
 }
 
-// The logs of the first n nodes.
+// The logs of the first n nodes, where the table has room for more. n stands beside it, as in the definitions (`AllKept`,
+// `states_of`), which a slice to n would need a second time.
 pub fn write_logs(states: &[PaxosState], n: usize, logs: &mut [u8])
     requires { AllKept max_terms n states.now × (n ≤ max_nodes) × (log_size ≤ length logs.old) }
     ensures { logs.new ≡ logs_with logs.old (states_of n states.now) n }

@@ -46,7 +46,8 @@ pub fn summary_of(end: Stopped, n: usize) -> Summary
     }
 }
 
-// The run over a table of states that are still empty. The three buffers stay apart, as in `run`. The table keeps the states that the run ends with.
+// The run over a table of states that are still empty. The three buffers stay apart, as in `run`. The table keeps the states that
+// the run ends with.
 pub fn run_over(
     plan: &Plan,
     states: &mut [PaxosState],

@@ -7,7 +7,7 @@ use native.Mathlib.Nat.{suc-mul}
 use native.Mathlib.Numerals.{add-one}
 use native.Mathlib.Omega.{arith}
 use lib.ListN.{length, get_or, get_elem?, take, drop}
-use lib.Seq.{sets, length-sets, length-take-le, take_all, take-suc, drop-drop}
+use lib.Seq.{sets, length-take-le, take_all, take-suc, drop-drop}
 use Rattle.config.specs.Limits.{max_terms, most_rounds}
 use Rattle.metrics.specs.declared.summary.Summary.{Summary}
 use Rattle.phy.proofs.Snapshots.{sets_append}
@@ -75,9 +75,6 @@ module _ {p : Plan} {seeds table : List ℕ} where
       }
 
   -- the table is as long as it was
-  pub swept_size_lem : {i rounds : ℕ} {states : List PaxosState} {history : History} {table' : List ℕ} → SweptTo p seeds table i rounds states history table' → length table' ≡ length table
-  swept_size_lem {i} done = ap length done.sweeps.lines ∙ length-sets table 0 (swept_lines (map (summary_with p) (take i seeds)))
-
   pub swept_all : {i rounds : ℕ} {states : List PaxosState} {history : History} {table' : List ℕ} → SweptTo p seeds table i rounds states history table' → length seeds ≤ i → Sweeps p seeds table rounds table'
   swept_all {i} {rounds} {states} {history} {table'} done h =
       subst (λ (l : List ℕ). Sweeps p l table rounds table') (take_all i seeds h) done.sweeps

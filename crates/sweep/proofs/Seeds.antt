@@ -1,6 +1,6 @@
 -- The run of one seed, over tables that are blank before and behind it. Assumes nothing.
-use Prim.Native.Nat.{ℕ, ◌≤◌}
-use mathlib.Core.Path.{◌≡◌, ap, subst, subst⁻¹, ◌∙◌}
+use Prim.Native.Nat.{ℕ}
+use mathlib.Core.Path.{◌≡◌, ap, subst, ◌∙◌}
 use mathlib.Core.List.{List}
 use native.Mathlib.Omega.{arith}
 use lib.ListN.{length}
@@ -8,12 +8,11 @@ use Rattle.config.specs.Limits.{most_rounds}
 use Rattle.metrics.specs.declared.summary.Summary.{Summary}
 use Rattle.protocol.specs.declared.state.PaxosState.{PaxosState}
 use Rattle.pipeline.specs.declared.records.History.{History}
-use Rattle.pipeline.specs.View.{table_size, Started, NoTerms, Blank}
+use Rattle.pipeline.specs.View.{table_size, Started, NoTerms}
 use Rattle.rules.specs.Accepted.{Accepted}
 use Rattle.rounds.specs.declared.run.Plan.{Plan}
 use Rattle.rounds.specs.declared.run.Stopped.{Stopped}
-use Rattle.rounds.specs.Going.{planned, CanStart, Stops}
-use Rattle.pipeline.proofs.StateTables.{table_fits}
+use Rattle.rounds.specs.Going.{planned, Stops}
 use Rattle.sim.specs.Filling.{summary_from}
 use Rattle.sim.proofs.Filled.{over, summary_is}
 use Rattle.sweep.specs.Sweep.{summary_in}
@@ -39,20 +38,12 @@ module _ (p : Plan) (seed : ℕ) (ok : Accepted (planned p)) where
 
   -- the plan of the seed's run
   module _ {q : Plan} (same : q ≡ plan_with p seed) where
-    pub can_start : {states : List PaxosState} {history : History} → Blank p.network.graph.nodes states history → CanStart q (most_rounds p.config.num_proposals) states history
-    can_start {states} {history} blank =
-        subst⁻¹ (λ (x : Plan). CanStart x (most_rounds p.config.num_proposals) states history) same
-        (record { accepted = accepted_with; few = omega (arith, ok.proposals); blank = blank })
-
     module _ {r : Stopped} {b₀ : List ℕ} {states : List PaxosState} {history : History} {snapshots : List ℕ} (e : Stops q (most_rounds p.config.num_proposals) r b₀ states history snapshots) where
       stopped : Stops (plan_with p seed) (most_rounds p.config.num_proposals) r b₀ states history snapshots
       stopped = subst (λ (x : Plan). Stops x (most_rounds p.config.num_proposals) r b₀ states history snapshots) same e
 
       pub table_room : length states ≡ table_size p.network.graph.nodes
       table_room = stopped.goes.steady.sharing.kept.room
-
-      pub states_room : p.network.graph.nodes ≤ length states
-      states_room = omega (arith, table_room, table_fits p.network.graph.nodes ok.few)
 
       pub runs_seed : {s : Summary} {states' : List PaxosState} {history' : History} → s ≡ summary_from p.network.graph.nodes r → length states' ≡ length states → NoTerms p.network.graph.nodes states' → Started 0 history'
           → RunsSeed p seed s states' history'

@@ -17,7 +17,8 @@ fn clear_state(state: &mut PaxosState)
     state.last_accepted = None;
 }
 
-// The first n nodes have no term any more.
+// The first n nodes have no term any more. Of the whole table, and not of the slice to n, so that its promise is about the table
+// that the caller plays on: from a part's it would have to be put together again.
 pub fn clear_states(states: &mut [PaxosState], n: usize)
     requires { n ≤ length states.old }
     ensures { (length states.new ≡ length states.old) × NoTerms n states.new }

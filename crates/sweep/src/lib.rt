@@ -31,7 +31,7 @@ use sim::outcome::summary_of;
 // A line: rounds, slots, listen, flood, sleep, records, end.
 pub const SWEPT_SIZE: usize = 7;
 
-pub const MAX_SEEDS: usize = 65536;
+const MAX_SEEDS: usize = 65536;
 
 // Question 15, for so many seeds and a table of this length.
 fn ask_table(seeds: usize, table: usize) -> Result<(), Refusal>
@@ -88,8 +88,8 @@ fn run_seed(plan: &Plan, seed: u64, states: &mut [PaxosState], history: &mut His
 {
     let most = plan.config.num_proposals + ENOUGH_ROUNDS;
     let mut snapshots = [0u64; 0];
-    let again = plan_with(plan, seed);
-    let stopped = play(&again, most, states, history, &mut snapshots);
+    let seeded = plan_with(plan, seed);
+    let stopped = play(&seeded, most, states, history, &mut snapshots);
     let n = plan.network.graph.nodes;
     clear_states(states, n);
     clear_starts(history);

@@ -6,9 +6,6 @@ use Rattle.sweep.proofs.sweep_over.Goals as goal
 pub loop-i-init : goal.loop-i-init
 loop-i-init c = swept_none (zeros_blank c.args.plan.now.network.graph.nodes c.requires.1)
 
-pub run_seed-summary-requires : goal.run_seed-summary-requires
-run_seed-summary-requires c = (c.requires.0.accepted, c.loop-i.invariant.blank)
-
 pub overflow_add-rounds : goal.overflow_add-rounds
 overflow_add-rounds c = omega (arith, c.loop-i.invariant.few, c.run_seed-summary.ensures.few, c.requires.0.few)
 

@@ -1,11 +1,10 @@
 -- What the questions of the network, of the configuration and of the table let pass is swept; else the table stays.
 use Rattle.std.proofs.Common.{length, sym, ◌∙◌}
-use Rattle.std.proofs.lemmas.Result.{err_from_is_err_and}
-use Rattle.config.proofs.Unless.{refused as unless_refused}
+use Rattle.config.proofs.Unless.{refused as unless_refused, goes_up}
 use Rattle.network.specs.Questions.{first_no}
 use Rattle.rules.specs.Questions.{config_questions}
 use Rattle.rules.specs.Networks.{asked_for}
-use Rattle.rules.proofs.Admitted.{accepts}
+use Rattle.rules.proofs.Admitted.{network_accepts}
 use Rattle.rules.proofs.FirstNo.{both_none, let_pass}
 use Rattle.rules.proofs.Found.{network_refused, network_found}
 use Rattle.sweep.specs.Sweep.{table_questions, sweep_questions}
@@ -16,29 +15,26 @@ pub returns-in_err-network : goal.returns-in_err-network
 returns-in_err-network c =
     let a = c.args in
     let q = asked_for a.asked in
-    let p = err_from_is_err_and c.from_residual.result c.from_residual.ensures.1 in
-    rw (p.1, p.2)
+    rw (goes_up _ c.from_residual.ensures.1)
     (refused q a.config a.seeds.now a.table.now _ (network_refuses q a.config a.seeds.now a.table.now _ (network_refused q _ c.in_err-network.ensures)))
 
 pub returns-in_err-ask_sweep : goal.returns-in_err-ask_sweep
 returns-in_err-ask_sweep c =
     let a = c.args in
     let q = asked_for a.asked in
-    let p = err_from_is_err_and c.from_residual-in_err-ask_sweep.result c.from_residual-in_err-ask_sweep.ensures.1 in
     let f = network_found q _ c.in_ok-network.ensures in
     let asked = sweep_questions a.config (length a.seeds.now) (length a.table.now) in
-    rw (p.1, p.2)
+    rw (goes_up _ c.from_residual-in_err-ask_sweep.ensures.1)
     (refused q a.config a.seeds.now a.table.now _
     (network_passes q a.config a.seeds.now a.table.now f.passes ∙ unless_refused tt (first_no asked) _ (sym c.in_err-ask_sweep.ensures)))
 
 pub sweep_graph-requires : goal.sweep_graph-requires
 sweep_graph-requires c =
     let a = c.args in
-    let f = network_found (asked_for a.asked) _ c.in_ok-network.ensures in
     let pass = let_pass (sweep_questions a.config (length a.seeds.now) (length a.table.now)) c.in_ok-ask_sweep.ensures in
     let each = both_none (config_questions a.config) (table_questions (length a.seeds.now) (length a.table.now)) pass in
     let fits = table_facts (length a.seeds.now) (length a.table.now) each.1 in
-    record { accepted = accepts a.config f.measured each.0; few = fits.0; room = fits.1 }
+    record { accepted = network_accepts (asked_for a.asked) _ a.config c.in_ok-network.ensures each.0; few = fits.0; room = fits.1 }
 
 pub returns : goal.returns
 returns c =

@@ -1,6 +1,5 @@
 use Rattle.std.proofs.Common.{sym, ◌∙◌}
-use Rattle.std.proofs.lemmas.Result.{err_from_is_err_and}
-use Rattle.config.proofs.Unless.{refused, passed}
+use Rattle.config.proofs.Unless.{refused, passed, goes_up}
 use Rattle.network.specs.Questions.{first_no}
 use Rattle.network.specs.Topology.{graph_of}
 use Rattle.rules.specs.Networks.{asked_for, network_questions, nodes_in, rows_in}
@@ -10,8 +9,7 @@ use Rattle.validity.proofs.validity_of.Goals as goal
 pub returns-in_err-ask_graph : goal.returns-in_err-ask_graph
 returns-in_err-ask_graph c =
     let q = asked_for c.args.asked in
-    let p = err_from_is_err_and c.from_residual.result c.from_residual.ensures.1 in
-    rw (p.1, p.2) (network_refuses q c.args.config _ (refused (graph_of (rows_in q) (nodes_in q)) (first_no (network_questions q)) _ (sym c.in_err-ask_graph.ensures)))
+    rw (goes_up _ c.from_residual.ensures.1) (network_refuses q c.args.config _ (refused (graph_of (rows_in q) (nodes_in q)) (first_no (network_questions q)) _ (sym c.in_err-ask_graph.ensures)))
 
 pub returns : goal.returns
 returns c =

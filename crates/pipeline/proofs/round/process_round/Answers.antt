@@ -1,7 +1,7 @@
 use Prim.Native.Nat.{ℕ, ◌+◌, ◌-◌, ◌%◌, ◌^◌, ◌<◌}
 use mathlib.Core.Bool.{true}
 use mathlib.Core.List.{List}
-use mathlib.Core.Path.{◌≡◌, sym, ap, subst, subst⁻¹, ◌∙◌}
+use mathlib.Core.Path.{◌≡◌, sym, ap, subst⁻¹, ◌∙◌}
 use native.Mathlib.Nat.{mod-lt}
 use native.Mathlib.Omega.{arith}
 use lib.Bits.{bit_and, and_mask}
@@ -9,15 +9,15 @@ use lib.Pow.{pow_pos}
 use Rattle.network.specs.Graph.{has}
 use Rattle.network.specs.Members.{TakesLowest}
 use Rattle.network.proofs.Sets.{has_low, has_below}
-use Rattle.network.proofs.Lowest.{Walked, Taken, walked_none, walked_take, walked_all}
+use Rattle.network.proofs.Lowest.{Walked, Taken, walked_take, walk_begins, walk_ends}
 use Rattle.network.specs.declared.units.Slot.{Slot}
 use Rattle.phy.specs.declared.packet.Packet.{Packet}
 use Rattle.protocol.specs.declared.state.PaxosState.{PaxosState}
 use Rattle.protocol.specs.View.{TermsBelow}
 use Rattle.pipeline.specs.declared.carry.Carry.{Carry}
 use Rattle.pipeline.specs.declared.records.History.{History}
-use Rattle.pipeline.specs.Round.{turns, process_round}
-use Rattle.pipeline.specs.View.{Sharing, shared_of}
+use Rattle.pipeline.specs.Round.{process_round}
+use Rattle.pipeline.specs.View.{shared_of}
 use Rattle.pipeline.proofs.Sharing.{Turned, cleared_sharing, turned_none, turned_skip, turned_more}
 use Rattle.pipeline.proofs.round.process_round.Goals as goal
 
@@ -54,7 +54,7 @@ loop-j-init c =
     let a = c.args in
     let took = bit_and a.part c.full_set.result in
     let all : c.into_iter-j-iterator.result.left ≡ took = cc in
-    (tt, tt, (0, subst (λ (s : ℕ). Walked took s 0) (sym all) (walked_none took), turned_none (subst⁻¹ (λ (y : Carry). Sharing a.n y a.states.now a.history.now) c.cleared-y.ensures (cleared_sharing c.requires.sharing))))
+    (tt, tt, (0, walk_begins all, turned_none (cleared_sharing c.requires.sharing)))
 
 pub take_turn-y-requires : goal.take_turn-y-requires
 take_turn-y-requires c =
@@ -62,14 +62,13 @@ take_turn-y-requires c =
     let i = c.loop-j.invariant.2 in
     let h = below a.n a.part c.full_set.result c.full_set.ensures c.in-Some.ensures.steps i.1 i.2 in
     let u = so_far a.n a.part c.full_set.result c.full_set.ensures c.in-Some.ensures.steps i.1 i.2 in
-    let same = c.cleared-y.ensures in
     record {
       n = a.n;
       sharing = u.sharing;
       node = h;
       nodes = c.requires.nodes;
-      piggybacks = omega (arith, u.piggybacks, ap (λ (y : Carry). y.piggybacks) same, c.requires.piggybacks, c.requires.nodes, h);
-      below = subst⁻¹ (λ (m : ℕ). TermsBelow m a.packet) (u.counter ∙ ap (λ (y : Carry). y.counter) same) c.requires.below;
+      piggybacks = omega (arith, u.piggybacks, c.requires.piggybacks, c.requires.nodes, h);
+      below = subst⁻¹ (λ (m : ℕ). TermsBelow m a.packet) u.counter c.requires.below;
     }
 
 pub loop-j-preserved : goal.loop-j-preserved
@@ -88,13 +87,11 @@ returns c =
     let a = c.args in
     let n = a.n in
     let i = c.loop-j.invariant.2 in
-    let same = c.cleared-y.ensures in
-    let done = subst (λ (r : ℕ). Walked (bit_and a.part c.full_set.result) r i.0) c.in-None.ensures.steps i.1 in
-    let u = turned_skip {j = n} i.2.most (omega arith) (λ j g v. sym (has_took n a.part c.full_set.result c.full_set.ensures j v) ∙ walked_all done j g) i.2 in
+    let u = turned_skip {j = n} i.2.most (omega arith) (λ j g v. sym (has_took n a.part c.full_set.result c.full_set.ensures j v) ∙ walk_ends i.1 c.in-None.ensures.steps j g) i.2 in
     record {
-      counter = u.counter ∙ ap (λ (y : Carry). y.counter) same;
-      nacks = u.nacks ∙ ap (λ (y : Carry). y.nacks) same;
-      piggybacks = omega (arith, u.piggybacks, ap (λ (y : Carry). y.piggybacks) same);
+      counter = u.counter;
+      nacks = u.nacks;
+      piggybacks = u.piggybacks;
       sharing = u.sharing;
-      shared = u.shared ∙ ap (λ (y : Carry). turns a.packet a.slot.0 a.part n (shared_of n y a.states.now a.history.now)) same;
+      shared = u.shared;
     }

@@ -1,8 +1,7 @@
 -- The graph that the questions let pass has 2 to 32 nodes and passes the row check, so it has a diameter.
 use Rattle.std.proofs.Common.{◌≤◌, sym, ap, subst, ◌∙◌, Ok}
-use Rattle.std.proofs.lemmas.Result.{err_from_is_err_and}
 use Rattle.config.specs.Limits.{max_nodes}
-use Rattle.config.proofs.Unless.{still_refused, not_refused, passed}
+use Rattle.config.proofs.Unless.{still_refused, not_refused, passed, goes_up}
 use Rattle.network.specs.Graph.{Checked}
 use Rattle.network.specs.Distance.{diameter}
 use Rattle.network.specs.Questions.{first_no}
@@ -16,8 +15,7 @@ pub returns-in_err-graph : goal.returns-in_err-graph
 unfolding network_for
 returns-in_err-graph c =
     let q = asked_for c.args.asked in
-    let p = err_from_is_err_and c.from_residual.result c.from_residual.ensures.1 in
-    rw (p.1, p.2) (still_refused (graph_of (rows_in q) (nodes_in q)) (network_as q) (first_no (network_questions q)) _ c.in_err-graph.ensures)
+    rw (goes_up _ c.from_residual.ensures.1) (still_refused (graph_of (rows_in q) (nodes_in q)) (network_as q) (first_no (network_questions q)) _ c.in_err-graph.ensures)
 
 pub diameter-diameter-requires : goal.diameter-diameter-requires
 diameter-diameter-requires c =

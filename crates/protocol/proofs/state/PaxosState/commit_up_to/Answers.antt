@@ -2,7 +2,7 @@
 -- Assumes nothing.
 use Prim.Native.Nat.{ℕ, suc, ◌+◌, ◌-◌, ◌≤◌, ◌<◌}
 use mathlib.Core.Bool.{true, false}
-use mathlib.Core.Path.{◌≡◌, refl, sym, ap, ◌∙◌, subst}
+use mathlib.Core.Path.{◌≡◌, refl, sym, ap, ◌∙◌}
 use native.Mathlib.Omega.{arith}
 use lib.Bits.{bit_and}
 use lib.Dec.{leb}
@@ -10,7 +10,7 @@ use Rattle.config.specs.Limits.{max_terms}
 use Rattle.network.specs.Graph.{has, set_of}
 use Rattle.network.specs.Members.{TakesLowest}
 use Rattle.network.proofs.Sets.{has_below}
-use Rattle.network.proofs.Lowest.{Walked, Taken, walked_none, walked_take, walked_all}
+use Rattle.network.proofs.Lowest.{Walked, Taken, walked_take, walk_begins, walk_ends}
 use Rattle.protocol.specs.Paxos.{commit_below, commit_term, commit_to, newly_to}
 use Rattle.protocol.specs.declared.state.PaxosState.{PaxosState}
 use Rattle.protocol.specs.View.{view, Kept, Next}
@@ -51,7 +51,7 @@ unfolding commit_below
 loop-t-init c =
     let newly = c.up_to-reach.result - bit_and c.up_to-reach.result c.args.self.now.logged in
     let all : c.into_iter-t-iterator.result.left ≡ newly = cc in
-    (tt, tt, (0, subst (λ (s : ℕ). Walked newly s 0) (sym all) (walked_none newly), omega arith, next_same refl))
+    (tt, tt, (0, walk_begins all, omega arith, next_same refl))
 
 pub commit_term-requires : goal.commit_term-requires
 commit_term-requires c =
@@ -90,10 +90,9 @@ returns c =
     let l = c.loop-t in
     let i = l.invariant.2 in
     let e = newly_is_set a.self.now.logged a.last.0 _ c.up_to-reach.ensures in
-    let done = subst (λ (r : ℕ). Walked (c.up_to-reach.result - bit_and c.up_to-reach.result c.args.self.now.logged) r i.0) c.in-None.ensures.steps i.1 in
     record {
       next =
           turn_past a.self.now l.self a.last.0 i.0 c.requires.0 c.requires.1 i.3 (suc a.last.0) i.2 (omega arith)
-          (λ j g k. ap (λ (x : ℕ). has x j) (sym e) ∙ walked_all done j g);
+          (λ j g k. ap (λ (x : ℕ). has x j) (sym e) ∙ walk_ends i.1 c.in-None.ensures.steps j g);
       newly = e ∙ newly_is a.last.0 c.requires.0 c.requires.1;
     }

@@ -7,7 +7,6 @@ use Rattle.protocol.proofs.Kept.{held_in}
 use Rattle.protocol.proofs.state.PaxosState.is_held.Goals as goal
 
 pub returns : goal.returns
-unfolding has
 returns c =
     let t = c.args.term.0 in
-    ap (λ (x : ℕ). has x t) c.held_set.ensures ∙ sym (held_in c.requires.0 t)
+    c.has.ensures ∙ ap (λ (x : ℕ). has x t) c.held_set.ensures ∙ sym (held_in c.requires.0 t)

@@ -1,27 +1,19 @@
 -- `protocol::paxos::PaxosState::votes_of` meets its contract, by cases.
 -- Assumes nothing.
-use Prim.Native.Nat.{◌/◌, ◌%◌, ◌^◌}
-use mathlib.Core.Path.{sym, ap}
-use native.Mathlib.Omega.{arith}
-use borrow.Author.Tests.{eq-eqb, ne_eqb}
-use Rattle.network.specs.Graph.{has}
+use mathlib.Core.Path.{sym, ap, ◌∙◌}
 use Rattle.protocol.specs.Turns.{votes_of}
 use Rattle.protocol.proofs.Kept.{pending_at, pending_none, pending_out}
 use Rattle.protocol.proofs.state.PaxosState.votes_of.Goals as goal
+use Rattle.protocol.proofs.state.PaxosState.votes_of.Goals.{then-t-ge-MAX_TERMS-via-then-t-ge-MAX_TERMS, then-t-ge-MAX_TERMS-via-else-t-ge-MAX_TERMS+then-not-has}
 
 pub returns-then-t-ge-MAX_TERMS : goal.returns-then-t-ge-MAX_TERMS
-returns-then-t-ge-MAX_TERMS c = sym (ap votes_of (pending_out c.requires c.args.term.0 c.if-t-ge-MAX_TERMS.true))
-
-pub returns-then-self-t-eq0 : goal.returns-then-self-t-eq0
-unfolding has
-returns-then-self-t-eq0 c =
+returns-then-t-ge-MAX_TERMS c =
     let s = c.args.self.now in
     let t = c.args.term.0 in
-    sym (ap votes_of (pending_none s t (ne_eqb (s.pending / 2 ^ t % 2) 1 (λ q. omega (arith, c.if-self-t-eq0.true)))))
+    elim c.then-t-ge-MAX_TERMS.branch [
+      | then-t-ge-MAX_TERMS-via-then-t-ge-MAX_TERMS w ↦ sym (ap votes_of (pending_out c.requires t w.if-t-ge-MAX_TERMS.true))
+      | then-t-ge-MAX_TERMS-via-else-t-ge-MAX_TERMS+then-not-has w ↦ sym (ap votes_of (pending_none s t (sym w.has.ensures ∙ w.if-not-has.true)))
+    ]
 
 pub returns : goal.returns
-unfolding has
-returns c =
-    let s = c.args.self.now in
-    let t = c.args.term.0 in
-    sym (ap votes_of (pending_at s t (eq-eqb (s.pending / 2 ^ t % 2) 1 (omega (arith, c.if-self-t-eq0.false)))))
+returns c = sym (ap votes_of (pending_at c.args.self.now c.args.term.0 (sym c.has.ensures ∙ c.if-not-has.false)))

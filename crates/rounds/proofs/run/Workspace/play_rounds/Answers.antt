@@ -26,7 +26,7 @@ returns-then-is_some c =
     let i = c.loop-k.invariant in
     let new = c.next_round-next.result in
     let next = c.next_round-next.ensures in
-    let stopped : Option SeenRound → Stopped = λ o. record { run = new.run; rounds = c.loop-k.k + 1; last = o; ended = new.ended } in
+    let stopped : Option SeenRound → Stopped = λ o. record { run = new.played.run; rounds = c.loop-k.k + 1; last = o; ended = new.ended } in
     let why : (end_number new.ended ≡ 0 → ⊥) ⊎ (c.loop-k.k + 1 ≡ a.most) = elim c.then-is_some.branch [
       | then-is_some-via-then-is_some w ↦ inl (end_came _ (sym c.is_some.ensures ∙ w.if-is_some.true))
       | then-is_some-via-else-is_some+then-rounds-most w ↦ inr w.if-rounds-most.true
