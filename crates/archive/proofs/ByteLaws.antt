@@ -11,7 +11,7 @@ use borrow.Rule.Slice.PartMut.{put_mid, Post-is}
 use borrow.Author.Tests.{eq-eqb, eqb-true, ltb-true, ltb-false}
 use lib.Dec.{eqb, ltb}
 use lib.ListN.{length, get_or, take, drop, set, length-append, length-take, length-drop, take-append-drop, drop_of_length-le, get_or-eq_default}
-use lib.Seq.{sets, sets-eq, drop-cons, get_or-append-add, get_or-take, get_or-drop, length-take-le, take-suc, take-add, take_at, drop-drop, drop-append-add}
+use lib.Seq.{sets, sets-eq, drop-cons, get_or-append-add, get_or-take, get_or-drop, length-take-le, take-suc, take_at, drop-drop, drop-append-add}
 use Rattle.std.proofs.lemmas.Slice.Eq.{bytes_eq-Decides}
 use Rattle.archive.specs.Bytes.{byte_values, number_size, bytes_of, number_of, numbers_bytes, number_in, AreBytes, same_bytes}
 
@@ -101,10 +101,6 @@ read_more {bytes} {left} {others} {number} byte e r =
       whole = r.whole ∙ ap (λ (l : List ℕ). l ++ r.read) e ∙ append_assoc others (byte ∷ []) r.read;
       value = ap (λ n. byte + byte_values * n) r.value;
     }
-
-pub read_all : {bytes : List ℕ} {number : ℕ} (left : List ℕ) → length left ≡ 0 → ReadBack bytes left number → number ≡ number_of bytes
-read_all [] e r = r.value ∙ ap number_of (sym r.whole)
-read_all (b ∷ left) e r = absurd (omega arith)
 
 pub read_lt : {bytes left : List ℕ} {number : ℕ} (most : ℕ) → AreBytes bytes → length bytes ≤ most → ReadBack bytes left number → number < byte_values ^ most
 read_lt {bytes} {left} {number} most are few r =
@@ -225,27 +221,28 @@ numbers_more out at xs i h =
     let written : length (numbers_bytes (take i xs)) ≡ number_size * i = length_numbers (take i xs) ∙ ap (λ n. number_size * n) (length-take-le i xs (omega arith)) in
     rw (add-one i, take-suc xs i 0 h, numbers_append, append-nil, sets_append, written)
 
-module _ (bytes : List ℕ) (at : ℕ) where
-  -- whether the bytes from a place on are those of these numbers, from the i-th on
+-- whether the bytes from number i on are those of these numbers
+module _ (bytes : List ℕ) where
   abbrev pub numbers_left : List ℕ → ℕ → Bool
-  numbers_left xs i = same_bytes (take (number_size * (length xs - i)) (drop (at + number_size * i) bytes)) (numbers_bytes (drop i xs))
+  numbers_left xs i = same_bytes (drop (number_size * i) bytes) (numbers_bytes (drop i xs))
 
   pub numbers_left_lem :
-      (xs : List ℕ) (i : ℕ) → i < length xs → at + number_size * length xs ≤ length bytes → AreBytes bytes → get_or xs i 0 < byte_values ^ number_size →
-      numbers_left xs i ≡ (eqb (number_in number_size (at + number_size * i) bytes) (get_or xs i 0) && numbers_left xs (i + 1))
+      (xs : List ℕ) (i : ℕ) → i < length xs → number_size * length xs ≤ length bytes → AreBytes bytes → get_or xs i 0 < byte_values ^ number_size →
+      numbers_left xs i ≡ (eqb (number_in number_size (number_size * i) bytes) (get_or xs i 0) && numbers_left xs (i + 1))
   unfolding numbers_bytes
   numbers_left_lem xs i h room are small =
-      let here : ℕ = at + number_size * i in
+      let here : ℕ = number_size * i in
       let part : List ℕ = take number_size (drop here bytes) in
-      let more : number_size * (length xs - i) ≡ number_size + number_size * (length xs - suc i) = omega arith in
-      let next : here + number_size ≡ at + number_size * suc i = omega arith in
+      let next : here + number_size ≡ number_size * suc i = omega arith in
       let sized : length part ≡ number_size = length-take-le number_size (drop here bytes) (omega (arith, length-drop here bytes)) in
-      rw (add-one i, more, take-add number_size (number_size * (length xs - suc i)) (drop here bytes), drop-drop number_size here bytes, next, drop-cons xs i 0 h)
-      (same_append part _ (bytes_of number_size (get_or xs i 0)) _ (sized ∙ sym (length_bytes number_size (get_or xs i 0)))
+      let rest : List ℕ = drop (number_size * suc i) bytes in
+      let split : drop here bytes ≡ part ++ rest =
+      sym (take-append-drop number_size (drop here bytes)) ∙ ap (λ (l : List ℕ). part ++ l) (drop-drop number_size here bytes ∙ ap (λ (n : ℕ). drop n bytes) next) in
+      rw (add-one i, drop-cons xs i 0 h)
+      (ap (λ (l : List ℕ). same_bytes l (bytes_of number_size (get_or xs i 0) ++ numbers_bytes (drop (suc i) xs))) split
+      ∙ same_append part rest (bytes_of number_size (get_or xs i 0)) _ (sized ∙ sym (length_bytes number_size (get_or xs i 0)))
       ∙ ap (λ b. b && numbers_left xs (suc i)) (same_number number_size part (get_or xs i 0) sized (bytes_part bytes are number_size here) small))
 
-  pub no_numbers_left : (xs : List ℕ) (i : ℕ) → length xs ≤ i → numbers_left xs i ≡ true
+  pub no_numbers_left : (xs : List ℕ) (i : ℕ) → length bytes ≤ number_size * i → length xs ≤ i → numbers_left xs i ≡ true
   unfolding same_bytes numbers_bytes
-  no_numbers_left xs i h =
-      let none : length xs - i ≡ 0 = omega arith in
-      rw (none, drop_of_length-le xs h)
+  no_numbers_left xs i none h = rw (drop_of_length-le bytes none, drop_of_length-le xs h)

@@ -1,6 +1,6 @@
 -- What a file's layout says, as equations. Assumes nothing.
 use Prim.Native.Nat.{ℕ, zero, suc, ◌+◌, ◌*◌, ◌%◌, ◌-◌, ◌≤◌, ◌<◌}
-use mathlib.Core.Path.{◌≡◌, sym, ap, ◌∙◌}
+use mathlib.Core.Path.{◌≡◌, sym, ap, subst, ◌∙◌}
 use mathlib.Core.Bool.{true, false}
 use mathlib.Core.List.{List, [], ◌∷◌}
 use native.Mathlib.Nat.{add-zero, add-suc}
@@ -9,12 +9,33 @@ use native.Mathlib.Omega.{arith}
 use borrow.Author.Tests.{eq-eqb, eqb-true, le-leb, leb-true, lt-ltb}
 use lib.Dec.{lit<}
 use lib.ListN.{length, get_or, take, drop, set, length-drop}
-use lib.Seq.{sets, take-nil, take-take, drop-drop, length-take-le}
-use Rattle.std.proofs.Common.{Bool, cond, refl, Ok, Err}
-use Rattle.config.specs.declared.refusal.Refusal.{Refusal}
+use lib.Seq.{sets, take-nil, take-take, length-take-le}
+use borrow.Author.Count.{below_more}
+use Rattle.std.proofs.Common.{refl}
 use Rattle.config.specs.Limits.{log_size}
-use Rattle.archive.specs.Layout.{marker, section_count, first_offset, inputs_size, totals_size, record_bytes, snapshot_bytes, offset_in, length_in, end_in, in_order, lengths_fit, layout, Answer, layout_of, section_in, handed_out}
+use Rattle.std.specs.Borrow.{Bor}
+use Rattle.archive.specs.declared.layout.Filed.{Filed}
+use Rattle.archive.specs.declared.layout.Section.{Section}
+use Rattle.archive.specs.declared.layout.Section.TheVariants.{Inputs, Totals, Records, Snapshots, Logs}
+use Rattle.archive.specs.Layout.{marker, section_count, section_number, first_offset, inputs_size, totals_size, record_bytes, snapshot_bytes, offset_in, length_in, end_in, in_order, lengths_fit, layout, section_in, handed_out}
 use Rattle.archive.proofs.ByteLaws.{both, no_test}
+
+-- a section's number is one of them
+pub number_low : (s : Section) → section_number s < section_count
+number_low Inputs = omega arith
+number_low Totals = omega arith
+number_low Records = omega arith
+number_low Snapshots = omega arith
+number_low Logs = omega arith
+
+-- and stands at that place of the list
+pub number_here : (d : Section) (i : ℕ) → i < section_count → section_number (get_or (Inputs ∷ Totals ∷ Records ∷ Snapshots ∷ Logs ∷ []) i d) ≡ i
+number_here d zero h = refl
+number_here d (suc zero) h = refl
+number_here d (suc (suc zero)) h = refl
+number_here d (suc (suc (suc zero))) h = refl
+number_here d (suc (suc (suc (suc zero)))) h = refl
+number_here d (suc (suc (suc (suc (suc i))))) h = absurd (omega arith)
 
 -- where section i begins if the sections are in order
 abbrev pub start_of : List ℕ → ℕ → ℕ
@@ -47,6 +68,13 @@ ordered file e =
     start e0 e1 e2 e3 e4 (suc (suc (suc zero))) h = e3
     start e0 e1 e2 e3 e4 (suc (suc (suc (suc zero)))) h = e4
     start e0 e1 e2 e3 e4 (suc (suc (suc (suc (suc i))))) h = absurd (omega arith)
+
+-- one section more starts where it should
+pub one_more :
+    (file : List ℕ) {end size : ℕ} (i : ℕ) → (end ≡ start_of file i) × ((k : ℕ) → k < i → offset_in file k ≡ start_of file k) →
+    offset_in file i ≡ end → size ≡ length_in file i → (end + size ≡ start_of file (i + 1)) × ((k : ℕ) → k < i + 1 → offset_in file k ≡ start_of file k)
+one_more file i told begins long =
+    (rw add-one (omega (arith, begins, long)), below_more (λ k. offset_in file k ≡ start_of file k) i told.1 (begins ∙ told.0))
 
 pub in_order_lem : (file : List ℕ) → Ordered file → in_order file ≡ true
 unfolding in_order
@@ -116,24 +144,6 @@ keeps file e =
       in_size = sized file p3.1;
     }
 
-abbrev answer_of : Bool → Answer
-answer_of kept = cond kept (Ok tt) (Err Refusal.BrokenLayout)
-
-no_refusal : (b : Bool) {u : Unit {0}} → Ok u ≡ answer_of b → b ≡ true
-no_refusal true e = refl
-no_refusal false e = cc
-
-a_refusal : (b : Bool) {r : Refusal} → Err r ≡ answer_of b → (b ≡ false) × (r ≡ Refusal.BrokenLayout)
-a_refusal true e = cc
-a_refusal false e = (refl, cc)
-
--- what a file is answered says whether it keeps the layout
-pub kept_ok : (file : List ℕ) {u : Unit {0}} → Ok u ≡ layout_of file → layout file ≡ true
-kept_ok file e = no_refusal (layout file) e
-
-pub kept_err : (file : List ℕ) {r : Refusal} → Err r ≡ layout_of file → (layout file ≡ false) × (r ≡ Refusal.BrokenLayout)
-kept_err file e = a_refusal (layout file) e
-
 pub has_layout : (file : List ℕ) → Keeps file → layout file ≡ true
 unfolding layout
 has_layout file k =
@@ -164,13 +174,27 @@ module _ (file : List ℕ) (k : Keeps file) where
   length_section i h =
       length-take-le (length_in file i) (drop (offset_in file i) file) (omega (arith, length-drop (offset_in file i) file, end_inside i h))
 
--- the input fields, as a reader hands them out
+-- of a file that keeps the layout
 module _ (file : List ℕ) (e : layout file ≡ true) where
+  pub long : first_offset ≤ length file
+  long = (keeps file e).long
+
+  pub inputs_long : length (section_in file 0) ≡ inputs_size
+  inputs_long = let k = keeps file e in length_section file k 0 (omega arith) ∙ k.in_size.inputs
+
+  pub section_inside : (s : Section) → end_in file (section_number s) ≤ length file
+  section_inside s = end_inside file (keeps file e) (section_number s) (number_low s)
+
+  -- the input fields, as a reader hands them out
   pub handed_inputs : handed_out file 0 ≡ section_in file 0
   handed_inputs = handed_section file 0 e (omega arith)
 
   pub length_inputs : length (handed_out file 0) ≡ inputs_size
-  length_inputs = let k = keeps file e in ap length handed_inputs ∙ length_section file k 0 (omega arith) ∙ k.in_size.inputs
+  length_inputs = ap length handed_inputs ∙ inputs_long
+
+-- so a file that these are the bytes of keeps it
+pub kept_as : (f : Filed) {file : Bor (List ℕ)} → f.bytes ≡ file → layout file.now ≡ true
+kept_as f e = subst (λ (b : Bor (List ℕ)). layout b.now ≡ true) e f.kept
 
 drop_take : (d n : ℕ) (l : List ℕ) → drop d (take n l) ≡ take (n - d) (drop d l)
 drop_take zero n l = let all : n ≡ n - 0 = omega arith in ap (λ (k : ℕ). take k l) all
@@ -181,11 +205,6 @@ drop_take (suc d) (suc n) (x ∷ l) = let less : n - d ≡ suc n - suc d = omega
 -- a part of what a list begins with is a part of the list
 pub part_of_front : (l : List ℕ) (m d n : ℕ) → d + n ≤ m → take n (drop d (take m l)) ≡ take n (drop d l)
 part_of_front l m d n h = ap (take n) (drop_take d m l) ∙ take-take n (m - d) (drop d l) (omega arith)
-
--- and a part of a section is a part of the file
-pub section_part : (file : List ℕ) (i d n : ℕ) → d + n ≤ length_in file i → take n (drop d (section_in file i)) ≡ take n (drop (offset_in file i + d) file)
-section_part file i d n h =
-    part_of_front (drop (offset_in file i) file) (length_in file i) d n h ∙ ap (take n) (drop-drop d (offset_in file i) file)
 
 -- ---- offset and length of each section
 

@@ -1,4 +1,5 @@
--- Files and their sections: a reader hands back what a file was made of, and a file is made of what a reader hands out. Assumes nothing.
+-- Files and their sections: a reader hands back what a file was made of, and a file is made of what a reader hands out.
+-- Assumes nothing.
 use Prim.Native.Nat.{ℕ, zero, suc, ◌+◌, ◌*◌, ◌%◌, ◌^◌, ◌≤◌, ◌<◌}
 use mathlib.Core.Path.{◌≡◌, refl, sym, ap, ◌∙◌}
 use mathlib.Core.Bool.{◌&&◌}

@@ -4,6 +4,8 @@ use Rattle.std.proofs.lemmas.List.Edits.{sets}
 use Rattle.config.specs.declared.refusal.Refusal.{Refusal}
 use Rattle.config.specs.Limits.{record_size, snapshot_size, log_size}
 use Rattle.archive.specs.Bytes.{number_size, number_in}
+use Rattle.archive.specs.declared.layout.Section.{Section}
+use Rattle.archive.specs.declared.layout.Section.TheVariants.{Inputs, Totals, Records, Snapshots, Logs}
 
 -- the first byte
 abbrev pub marker : ℕ
@@ -12,6 +14,14 @@ marker = 5
 -- how many sections there are, and how many bytes an offset or a length has
 abbrev pub section_count : ℕ
 section_count = 5
+
+-- the number of a section, by which the directory has it
+abbrev pub section_number : Section → ℕ
+section_number Inputs = 0
+section_number Totals = 1
+section_number Records = 2
+section_number Snapshots = 3
+section_number Logs = 4
 
 -- the section of the records
 abbrev pub records_section : ℕ

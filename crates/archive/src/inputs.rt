@@ -1,15 +1,15 @@
 // The ten input fields of a file, in the line's order.
-ghost use Rattle.std.specs.Prelude.{◌≡◌, not, ◌*◌, ◌≤◌, ◌<◌, T, length};
+ghost use Rattle.std.specs.Prelude.{◌≡◌, not, ◌≤◌, T, length};
 ghost use Rattle.std.specs.Float.Ieee.{is_nan};
 ghost use Rattle.archive.specs.Layout.{inputs_size};
-ghost use Rattle.archive.specs.Inputs.{slots_number, slots_from, input_numbers, field_in, inputs_in};
+ghost use Rattle.archive.specs.Inputs.{slots_number, slots_from, input_numbers, inputs_in};
 
-use super::bytes::{NUMBER_SIZE, number_in};
+use super::bytes::nth_number;
 use super::layout::INPUT_COUNT;
 use config::Config;
 use config::rate::rate_of;
 
-// A run of a named topology, as it is asked for.
+// A run of a named topology, as it is asked for. A topology's three numbers stand apart, as in C and in a line.
 #[derive(Clone, Copy)]
 pub struct Inputs {
     pub topology: u64,
@@ -21,7 +21,7 @@ pub struct Inputs {
 // The number of absent round slots.
 const ABSENT_SLOTS: u64 = u64::MAX;
 
-// No From: neither type is ours.
+// No From, here and below: neither type is ours.
 fn slots_number(slots: Option<u64>) -> u64
     ensures { result ≡ slots_number slots }
 {
@@ -59,32 +59,24 @@ pub fn input_numbers(inputs: Inputs) -> [u64; INPUT_COUNT]
     ]
 }
 
-// Field i of a section.
-fn field_in(section: &[u8], i: usize) -> u64
-    requires { (i < 10) × (inputs_size ≤ length section.now) }
-    ensures { result ≡ field_in section.now i }
-{
-    number_in(section, NUMBER_SIZE * i, NUMBER_SIZE)
-}
-
 // What the fields of a section ask for.
 pub fn inputs_in(section: &[u8]) -> Inputs
     requires { inputs_size ≤ length section.now }
     ensures { result ≡ inputs_in section.now }
 {
     let config = Config {
-        flood_repeats: field_in(section, 3),
-        round_slots: slots_from(field_in(section, 4)),
-        loss_rate: rate_of(field_in(section, 5)),
-        seed: field_in(section, 6),
-        num_proposals: field_in(section, 7),
-        snapshot_interval: field_in(section, 8),
-        max_slots: field_in(section, 9),
+        flood_repeats: nth_number(section, 3),
+        round_slots: slots_from(nth_number(section, 4)),
+        loss_rate: rate_of(nth_number(section, 5)),
+        seed: nth_number(section, 6),
+        num_proposals: nth_number(section, 7),
+        snapshot_interval: nth_number(section, 8),
+        max_slots: nth_number(section, 9),
     };
     Inputs {
-        topology: field_in(section, 0),
-        first: field_in(section, 1),
-        second: field_in(section, 2),
+        topology: nth_number(section, 0),
+        first: nth_number(section, 1),
+        second: nth_number(section, 2),
         config,
     }
 }

@@ -27,7 +27,7 @@ use Rattle.rounds.specs.declared.run.Stopped.{Stopped}
 use Rattle.rounds.specs.Going.{planned, Contents, Shows, Steady, Going, MovesOn, Underway, NewRun}
 use Rattle.rounds.proofs.Underway.{underway_new, same_size, limit_is, run_is, goes_on}
 use Rattle.archive.specs.Bytes.{numbers_bytes, same_bytes}
-use Rattle.archive.specs.Layout.{snapshot_bytes, section_in}
+use Rattle.archive.specs.Layout.{snapshot_bytes, layout, section_in}
 use Rattle.archive.proofs.ByteLaws.{two}
 use Rattle.archive_check.specs.Check.{stored_in}
 use Rattle.archive_check.specs.Working.{taken, agrees, shots_in, CanReplay, Alike}
@@ -39,8 +39,7 @@ abbrev pub anew : Run → Run
 anew x =
     record {
       flood = record {
-        listening = x.flood.listening;
-        flooding = x.flood.flooding;
+        awake = x.flood.awake;
         slots_listen = x.flood.slots_listen;
         slots_flood = x.flood.slots_flood;
         slots_sleep = x.flood.slots_sleep;
@@ -110,9 +109,9 @@ pub record Comparing (p : Plan) (file : List ℕ) (k : ℕ) (x : Run) (w : Conte
   pub alike : agrees file here.standing.shots.taken ≡ true
   pub sized : length w.snapshots ≡ size
 
-pub comparing_new : {p : Plan} {file : List ℕ} {x : Run} {w : Contents} → CanReplay p file w → NewRun p.network.graph.nodes x
+pub comparing_new : {p : Plan} {file : List ℕ} {x : Run} {w : Contents} → layout file ≡ true → CanReplay p w → NewRun p.network.graph.nodes x
     → Comparing p file 0 x w (length w.snapshots)
-comparing_new {p} {file} {x} {w} can new =
+comparing_new {p} {file} {x} {w} kept can new =
     let u = underway_new p (most_rounds p.config.num_proposals) x w can.go new in
     record {
       first = w.snapshots;
@@ -121,11 +120,11 @@ comparing_new {p} {file} {x} {w} can new =
       due = due_begin (planned p) can.go.begins.accepted;
       fresh = new.flood.all ∙ sym u.going.shows.standing.shots.number;
       fives = none;
-      alike = agrees_none file can.kept;
+      alike = agrees_none file kept;
       sized = refl;
     }
 
-module _ {p : Plan} {file : List ℕ} {w₀ : Contents} (can : CanReplay p file w₀) {k : ℕ} {x : Run} {w : Contents}
+module _ {p : Plan} {file : List ℕ} {w₀ : Contents} (kept : layout file ≡ true) (can : CanReplay p w₀) {k : ℕ} {x : Run} {w : Contents}
     (c : Comparing p file k x w (length w₀.snapshots)) (more : k < most_rounds p.config.num_proposals) where
   abbrev g : Given
   g = planned p
@@ -160,7 +159,7 @@ module _ {p : Plan} {file : List ℕ} {w₀ : Contents} (can : CanReplay p file 
     abbrev next : Running
     next = run_round g k c.here
 
-    going : Going p (k + 1) r.run w' c.first next
+    going : Going p (k + 1) r.played.run w' c.first next
     going = m.going c.first c.here c.underway.going
 
     abbrev grown : Grown c.here.standing next.standing
@@ -172,7 +171,7 @@ module _ {p : Plan} {file : List ℕ} {w₀ : Contents} (can : CanReplay p file 
     from_is : x.flood.snapshots ≡ length before
     from_is = c.underway.going.shows.standing.shots.number
 
-    to_is : r.run.flood.snapshots ≡ length before + length grown.more
+    to_is : r.played.run.flood.snapshots ≡ length before + length grown.more
     to_is = going.shows.standing.shots.number ∙ ap length grown.grows ∙ length-append before grown.more
 
     pub size_now : length w'.snapshots ≡ length w₀.snapshots
@@ -184,8 +183,8 @@ module _ {p : Plan} {file : List ℕ} {w₀ : Contents} (can : CanReplay p file 
     stand =
         let b₀ = c.first in
         let shots = going.shows.standing.shots in
-        let first_is : r.run.flood.first_stored ≡ length before = m.first ∙ c.fresh ∙ from_is in
-        let new : drop r.run.flood.first_stored next.standing.shots.taken ≡ grown.more
+        let first_is : r.played.run.flood.first_stored ≡ length before = m.first ∙ c.fresh ∙ from_is in
+        let new : drop r.played.run.flood.first_stored next.standing.shots.taken ≡ grown.more
         = ap₂ (λ (n : ℕ) (l : List (List ℕ)). drop n l) first_is grown.grows ∙ drop-append_seam before grown.more in
         let few : length grown.more ≤ snapshot_room b₀ = omega (arith, few_next g ok k c.here c.due, can.shots_room, size_now, same_size going.shows) in
         let whole : length (flatten grown.more) ≡ snapshot_size * length grown.more
@@ -195,18 +194,18 @@ module _ {p : Plan} {file : List ℕ} {w₀ : Contents} (can : CanReplay p file 
         ap₂ take (sym whole) (stored ∙ sets-eq (flatten grown.more) b₀ 0 (omega (arith, whole, few)))
         ∙ take-append_seam (flatten grown.more) _
 
-    pub can_compare : (x.flood.snapshots ≤ r.run.flood.snapshots) × (snapshot_size * (r.run.flood.snapshots - x.flood.snapshots) ≤ length w'.snapshots)
+    pub can_compare : (x.flood.snapshots ≤ r.played.run.flood.snapshots) × (snapshot_size * (r.played.run.flood.snapshots - x.flood.snapshots) ≤ length w'.snapshots)
     can_compare =
         (omega (arith, from_is, to_is), omega (arith, from_is, to_is, few_next g ok k c.here c.due, can.shots_room, size_now))
 
     -- what comparing it tells
     module _ {same : Bool}
-        (told : same ≡ same_bytes (take (snapshot_bytes * taken (stored_in file) x.flood.snapshots r.run.flood.snapshots) (drop (snapshot_bytes * x.flood.snapshots) (section_in file 3)))
-        (numbers_bytes (take (snapshot_size * taken (stored_in file) x.flood.snapshots r.run.flood.snapshots) w'.snapshots))) where
+        (told : same ≡ same_bytes (take (snapshot_bytes * taken (stored_in file) x.flood.snapshots r.played.run.flood.snapshots) (drop (snapshot_bytes * x.flood.snapshots) (section_in file 3)))
+        (numbers_bytes (take (snapshot_size * taken (stored_in file) x.flood.snapshots r.played.run.flood.snapshots) w'.snapshots))) where
       agrees_now : agrees file next.standing.shots.taken ≡ same
       agrees_now =
           ap (agrees file) grown.grows
-          ∙ agrees_more file can.kept c.fives (fives_behind before (subst Fives grown.grows (fives_next g k c.here c.fives))) w'.snapshots stand
+          ∙ agrees_more file kept c.fives (fives_behind before (subst Fives grown.grows (fives_next g k c.here c.fives))) w'.snapshots stand
           ∙ and_yes (agrees file before) _ c.alike
           ∙ sym (told ∙ ap₂ (λ (a b : ℕ). same_bytes (take (snapshot_bytes * taken (stored_in file) a b) (drop (snapshot_bytes * a) (section_in file 3)))
           (numbers_bytes (take (snapshot_size * taken (stored_in file) a b) w'.snapshots))) from_is to_is)
@@ -235,13 +234,13 @@ module _ {p : Plan} {file : List ℕ} {w₀ : Contents} (can : CanReplay p file 
 
       pub differs : same ≡ false → agrees file (shots_in p) ≡ false
       differs e =
-          ap (agrees file) grown_on.grows ∙ differs_on file can.kept fives_now (fives_behind next.standing.shots.taken (subst Fives grown_on.grows (fives_run g))) (agrees_now ∙ e)
+          ap (agrees file) grown_on.grows ∙ differs_on file kept fives_now (fives_behind next.standing.shots.taken (subst Fives grown_on.grows (fives_run g))) (agrees_now ∙ e)
 
-      pub end_reached : same ≡ true → (end_number r.ended ≡ 0 → ⊥) → Alike p file (record { run = anew r.run; rounds = k + 1; last = None; ended = r.ended }) w'
+      pub end_reached : same ≡ true → (end_number r.ended ≡ 0 → ⊥) → Alike p file (record { run = anew r.played.run; rounds = k + 1; last = None; ended = r.ended }) w'
       end_reached e q =
           ends_as (run_is c.underway more below m q) (shows_anew going.shows) (steady_anew going.steady) going.rounds (omega (arith, more)) (agrees_now ∙ e)
 
-      pub compares_on : same ≡ true → end_number r.ended ≡ 0 → Comparing p file (k + 1) (anew r.run) w' (length w₀.snapshots)
+      pub compares_on : same ≡ true → end_number r.ended ≡ 0 → Comparing p file (k + 1) (anew r.played.run) w' (length w₀.snapshots)
       compares_on e z =
           record {
             first = w'.snapshots;

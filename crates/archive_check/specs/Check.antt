@@ -15,8 +15,8 @@ asked_in file = inputs_in (section_in file 0)
 abbrev pub stored_in : List ℕ → ℕ
 stored_in file = length_in file 3 / snapshot_bytes
 
--- Yes where the file is, byte for byte, what the writer makes of its first section with room for as many snapshots. No, too, where a run
--- refuses the first section.
+-- Yes where the file is, byte for byte, what the writer makes of its first section with room for as many snapshots. No, too,
+-- where a run refuses the first section.
 abbrev pub checked_unless : Option Refusal → List ℕ → Bool
 checked_unless None file = same_bytes file (made (asked_in file) (stored_in file))
 checked_unless (Some r) file = false

@@ -14,13 +14,15 @@ use Rattle.archive_writer.specs.Filing.{filing_for}
 use Rattle.archive_check.specs.Check.{asked_in, stored_in, check_of}
 use Rattle.archive_check.specs.Again.{again_for}
 
--- Of a file that keeps the layout, the check is whether running its first section afresh, with as many snapshots stored, gives the other four.
+-- Of a file that keeps the layout, the check is whether running its first section afresh, with as many snapshots stored, gives
+-- the other four.
 abbrev pub ChecksAgain : Type 0
 ChecksAgain =
     (file : List ℕ) → AreBytes file → layout file ≡ true →
     check_of file ≡ Ok (again_for (network_in (asked_in file)) (asked_in file).config file)
 
--- A file that passes is what the writer files of its first section, into buffers that are long enough and have room for as many snapshots.
+-- A file that passes is what the writer files of its first section, into buffers that are long enough and have room for as many
+-- snapshots.
 pub record FiledAgain (file : List ℕ) : Type 0 where
   pub accepted : refusal_for (network_in (asked_in file)) (asked_in file).config ≡ None
   pub bytes : file ≡ made (asked_in file) (stored_in file)

@@ -12,7 +12,7 @@ use Rattle.rounds.specs.declared.run.Stopped.{Stopped}
 use Rattle.rounds.specs.Going.{planned, Contents, contents_of, CanStart, CanGo, Steady}
 use Rattle.sim.specs.Filling.{Over}
 use Rattle.archive.specs.Bytes.{numbers_bytes, same_bytes}
-use Rattle.archive.specs.Layout.{snapshot_bytes, layout, section_in}
+use Rattle.archive.specs.Layout.{snapshot_bytes, section_in}
 use Rattle.archive_check.specs.Check.{stored_in}
 
 -- how many of the snapshots from a number up to another a file has, of which so many are stored
@@ -28,10 +28,9 @@ agrees file shots =
 abbrev pub shots_in : Plan → List (List ℕ)
 shots_in p = (run (planned p)).running.standing.shots.taken
 
--- a run can be played again beside a file: the snapshots of any round have room
-pub record CanReplay (p : Plan) (file : List ℕ) (w : Contents) : Type 0 where
+-- a run can be played again: the snapshots of any round have room
+pub record CanReplay (p : Plan) (w : Contents) : Type 0 where
   pub go : CanGo p (most_rounds p.config.num_proposals) w
-  pub kept : layout file ≡ true
   pub shots_room : snapshot_size * longest (planned p) ≤ length w.snapshots
 
 -- The run has stopped, and the code shows it; the snapshots agree.
@@ -47,10 +46,9 @@ abbrev pub Replays : Plan → List ℕ → Option Stopped → Contents → Type 
 Replays p file (Some r) w = Alike p file r w
 Replays p file None w = agrees file (shots_in p) ≡ false
 
--- A run can be played again beside a file over blank tables.
-pub record MayReplay (p : Plan) (file : List ℕ) (states : List PaxosState) (history : History) (shots : List ℕ) : Type 0 where
+-- A run can be played again over blank tables.
+pub record MayReplay (p : Plan) (states : List PaxosState) (history : History) (shots : List ℕ) : Type 0 where
   pub start : CanStart p (most_rounds p.config.num_proposals) states history
-  pub kept : layout file ≡ true
   pub shots_room : snapshot_size * longest (planned p) ≤ length shots
 
 -- and it was, with these states and this history

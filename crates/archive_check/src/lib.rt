@@ -4,44 +4,41 @@
 mod again;
 mod rounds_again;
 
-ghost use Rattle.std.specs.Prelude.{◌≡◌, true};
+ghost use Rattle.std.specs.Prelude.{◌≡◌};
 ghost use Rattle.config.specs.Refusals.{unless};
 ghost use Rattle.rules.specs.Questions.{refusal_for};
 ghost use Rattle.rules.specs.Entries.{given_for};
-ghost use Rattle.archive.specs.Layout.{layout};
 ghost use Rattle.archive_writer.specs.Filed.{network_in};
 ghost use Rattle.archive_check.specs.Again.{gives_again};
 ghost use Rattle.archive_check.specs.Check.{check_of};
 
 use again::gives_again;
 use archive::inputs::{Inputs, inputs_in};
-use archive::layout::layout_of;
-use archive::reader::inputs_of;
+use archive::layout::{Filed, Section};
+use archive_writer::network_of;
 use config::refusal::Refusal;
 use rounds::run::Plan;
-use rules::networks::{Asked, ask_network};
 use rules::questions::ask_config;
 
-// Whether the run of the inputs gives the file's other sections, where the questions of the network and of the configuration let
-// it pass.
-fn runs_again(inputs: Inputs, file: &[u8]) -> Result<bool, Refusal>
-    requires { layout file.now ≡ true }
+// Whether the run of the inputs gives the file's other sections, where the questions of the network and of the configuration
+// let it pass.
+fn runs_again(inputs: Inputs, file: Filed) -> Result<bool, Refusal>
     ensures { let q = network_in inputs in
-        result ≡ unless (refusal_for q inputs.config) (gives_again (given_for q inputs.config) file.now) }
+        result ≡ unless (refusal_for q inputs.config) (gives_again (given_for q inputs.config) file.entry.bytes.now) }
 {
     let config = inputs.config;
-    let network = ask_network(Asked::Topology(inputs.topology, inputs.first, inputs.second))?;
+    let network = network_of(inputs)?;
     ask_config(config)?;
     let plan = Plan { network, config };
     Ok(gives_again(&plan, file))
 }
 
-// Checks a file: no, too, where a question refuses the run. One run, whatever the number of its snapshots, and no more memory for a
-// longer file.
+// Checks a file: no, too, where a question refuses the run. One run, whatever the number of its snapshots, and no more memory
+// for a longer file.
 pub fn check_file(file: &[u8]) -> Result<bool, Refusal>
     ensures { result ≡ check_of file.now }
 {
-    layout_of(file)?;
-    let inputs = inputs_in(inputs_of(file));
+    let file = Filed::of(file)?;
+    let inputs = inputs_in(file.part(Section::Inputs));
     Ok(runs_again(inputs, file).unwrap_or(false))
 }

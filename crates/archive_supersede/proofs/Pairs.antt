@@ -12,8 +12,8 @@ use Rattle.network.proofs.Sets.{two}
 use Rattle.archive.specs.Bytes.{same_bytes}
 use Rattle.std.proofs.Common.{Result, Ok, Err}
 use Rattle.config.specs.declared.refusal.Refusal.{Refusal}
-use Rattle.archive.specs.Layout.{records_section, layout, layout_of}
-use Rattle.archive.proofs.Orders.{keeps, kept_ok, end_inside}
+use Rattle.archive.specs.Layout.{records_section, layout}
+use Rattle.archive.proofs.Orders.{keeps, end_inside}
 use Rattle.archive_supersede.specs.declared.Superseding.{Superseding}
 use Rattle.archive_supersede.specs.declared.Superseding.TheVariants.{First, Second}
 use Rattle.archive_supersede.specs.Supersede.{limit_in, other_fields, records_place, which_supersedes}
@@ -27,11 +27,6 @@ pub record Paired (first second : List ℕ) : Type 0 where
   pub first_kept : layout first ≡ true
   pub second_kept : layout second ≡ true
   pub agree : same_bytes (other_fields first) (other_fields second) ≡ true
-
--- from what the code has asked
-pub paired : {first second : List ℕ} {u v : Unit {0}} → Ok u ≡ layout_of first → Ok v ≡ layout_of second →
-    same_bytes (other_fields first) (other_fields second) ≡ true → Paired first second
-paired {first} {second} e f agree = record { first_kept = kept_ok first e; second_kept = kept_ok second f; agree = agree }
 
 module _ (first second : List ℕ) where
   pub first_broken : layout first ≡ false → Err Refusal.BrokenLayout ≡ which_supersedes first second

@@ -2,14 +2,12 @@
 // with the larger limit.
 #![tactic(auto)]
 
-ghost use Rattle.std.specs.Prelude.{◌≡◌, true, ◌+◌, ◌≤◌, length};
+ghost use Rattle.std.specs.Prelude.{◌≡◌, ◌+◌, ◌≤◌, length};
 ghost use Rattle.archive.specs.Bytes.{same_bytes};
-ghost use Rattle.archive.specs.Layout.{layout};
 ghost use Rattle.archive_supersede.specs.Supersede.{limit_in, other_fields, records_place, which_supersedes, returned, part_of, superseding_part};
 
-use archive::bytes::{NUMBER_SIZE, are_bytes, number_in};
-use archive::layout::{INPUT_COUNT, RECORDS, layout_of, length_in, offset_in};
-use archive::reader::inputs_of;
+use archive::bytes::{NUMBER_SIZE, nth_number};
+use archive::layout::{Filed, INPUT_COUNT, Section};
 use config::refusal::Refusal;
 
 // A part of a file: where it begins, and how many bytes it has.
@@ -27,31 +25,32 @@ pub enum Superseding {
 }
 
 // The slot limit is the last of the input fields. It stands behind the others.
-const LIMIT_AT: usize = NUMBER_SIZE * (INPUT_COUNT - 1);
+const LIMIT_FIELD: usize = INPUT_COUNT - 1;
 
-fn limit_in(file: &[u8]) -> u64
-    requires { layout file.now ≡ true }
-    ensures { result ≡ limit_in file.now }
+const LIMIT_AT: usize = NUMBER_SIZE * LIMIT_FIELD;
+
+fn limit_in(file: Filed) -> u64
+    ensures { result ≡ limit_in file.entry.bytes.now }
 {
-    number_in(inputs_of(file), LIMIT_AT, NUMBER_SIZE)
+    nth_number(file.part(Section::Inputs), LIMIT_FIELD)
 }
 
 // Whether two files agree in every input field but the slot limit.
-fn same_other_fields(first: &[u8], second: &[u8]) -> bool
-    requires { (layout first.now ≡ true) × (layout second.now ≡ true) }
-    ensures { result ≡ same_bytes (other_fields first.now) (other_fields second.now) }
+#[tactic(auto, unfolding(archive::specs::Bytes::same_bytes))]
+fn same_other_fields(first: Filed, second: Filed) -> bool
+    ensures { result ≡ same_bytes (other_fields first.entry.bytes.now) (other_fields second.entry.bytes.now) }
 {
-    let inputs = inputs_of(second);
-    are_bytes(inputs_of(first), 0, &inputs[..LIMIT_AT])
+    let first = first.part(Section::Inputs);
+    let second = second.part(Section::Inputs);
+    &first[..LIMIT_AT] == &second[..LIMIT_AT]
 }
 
-fn records_place(file: &[u8]) -> Place
-    requires { layout file.now ≡ true }
-    ensures { result ≡ records_place file.now }
+fn records_place(file: Filed) -> Place
+    ensures { result ≡ records_place file.entry.bytes.now }
 {
     Place {
-        offset: offset_in(file, RECORDS),
-        length: length_in(file, RECORDS),
+        offset: file.offset_of(Section::Records),
+        length: file.length_of(Section::Records),
     }
 }
 
@@ -59,8 +58,8 @@ fn records_place(file: &[u8]) -> Place
 pub fn which_supersedes(first: &[u8], second: &[u8]) -> Result<Superseding, Refusal>
     ensures { result ≡ which_supersedes first.now second.now }
 {
-    layout_of(first)?;
-    layout_of(second)?;
+    let first = Filed::of(first)?;
+    let second = Filed::of(second)?;
     if !same_other_fields(first, second) {
         return Err(Refusal::FieldsDiffer);
     }

@@ -5,8 +5,10 @@ mod put;
 mod run;
 
 ghost use Rattle.std.specs.Prelude.{◌≡◌, ◌*◌, ◌^◌, ◌<◌, leb};
+ghost use Rattle.rules.specs.Networks.{network_for};
 ghost use Rattle.archive.specs.Layout.{snapshot_bytes};
 ghost use Rattle.rounds.specs.Going.{planned};
+ghost use Rattle.archive_writer.specs.Filed.{network_in};
 ghost use Rattle.archive_writer.specs.Filing.{filing, filing_for};
 ghost use Rattle.archive_writer.specs.Working.{summary_in, length_with, CanCount};
 
@@ -15,9 +17,16 @@ use config::limits::{MAX_TERMS, SNAPSHOT_SIZE};
 use config::refusal::Refusal;
 use put::length_of;
 use rounds::run::Plan;
-use rules::networks::{Asked, ask_network};
+use rules::networks::{Asked, Network, ask_network};
 use rules::questions::ask_run;
 use run::{count_run, file_run};
+
+// The network that the inputs name. No `From<Inputs>` for `Asked`: they are types of two crates, and neither uses the other.
+pub fn network_of(inputs: Inputs) -> Result<Network, Refusal>
+    ensures { result ≡ network_for (network_in inputs) }
+{
+    ask_network(Asked::Topology(inputs.topology, inputs.first, inputs.second))
+}
 
 // Whether the run's file fits into so many bytes. Where they suffice for whatever the snapshots' buffer can bring, no run is
 // needed to tell.
@@ -33,8 +42,8 @@ fn fits(plan: &Plan, room: usize, size: usize) -> bool
     length_of(counted.records as usize, stored) <= size
 }
 
-// Files the run of the inputs, whose buffers are then as `sim::entries::run` leaves them, and says how many bytes the file has. A
-// refusal leaves every buffer as it was. The buffers stay apart here and below, as for a run.
+// Files the run of the inputs, whose buffers are then as `sim::entries::run` leaves them, and says how many bytes the file
+// has. A refusal leaves every buffer as it was. The buffers stay apart here and below, as for a run.
 pub fn file_topology(
     inputs: Inputs,
     logs: &mut [u8],
@@ -46,7 +55,7 @@ pub fn file_topology(
         ≡ filing_for inputs logs.old records.old snapshots.old file.old }
 {
     let config = inputs.config;
-    let network = ask_network(Asked::Topology(inputs.topology, inputs.first, inputs.second))?;
+    let network = network_of(inputs)?;
     ask_run(config, logs.len(), records.len())?;
     let plan = Plan { network, config };
     let room = snapshots.len() / SNAPSHOT_SIZE;

@@ -7,19 +7,19 @@ ghost use Rattle.metrics.specs.Totals.{totals};
 ghost use Rattle.rules.specs.Answers.{ran};
 ghost use Rattle.archive.specs.Bytes.{numbers_bytes};
 ghost use Rattle.archive.specs.Inputs.{input_numbers};
-ghost use Rattle.archive.specs.Layout.{section_count, pair_at, first_offset, snapshot_bytes};
+ghost use Rattle.archive.specs.Layout.{section_number, pair_at, first_offset, snapshot_bytes};
 ghost use Rattle.archive_writer.specs.Filed.{filed};
 ghost use Rattle.archive_writer.specs.Working.{totals_at, records_at, file_length, pair_of, head_of, CanPut, Laid};
 
 use archive::bytes::{NUMBER_SIZE, put_bytes, put_numbers};
 use archive::inputs::{Inputs, input_numbers};
 use archive::layout::{
-    FIRST_OFFSET, INPUT_COUNT, INPUTS_SIZE, MARKER, OFFSET_SIZE, PAIR_SIZE, RECORD_BYTES,
-    SNAPSHOT_BYTES, TOTALS_SIZE,
+    FIRST_OFFSET, INPUTS_SIZE, MARKER, OFFSET_SIZE, RECORD_BYTES, SNAPSHOT_BYTES, Section,
+    TOTALS_SIZE,
 };
 use config::limits::{LOG_SIZE, RECORD_SIZE, SNAPSHOT_SIZE};
 use metrics::summary::Summary;
-use metrics::totals::{TOTAL_COUNT, totals_of};
+use metrics::totals::totals_of;
 use text::overlay::Overlay;
 
 // The length of a file of so many records and snapshots.
@@ -35,12 +35,12 @@ pub fn length_of(records: usize, snapshots: usize) -> usize
         + LOG_SIZE
 }
 
-// Pair i of the directory.
-fn put_pair(i: usize, offset: usize, size: usize, file: &mut [u8])
-    requires { (i < section_count) × (first_offset ≤ length file.old) }
-    ensures { file.new ≡ sets file.old (pair_at i) (pair_of offset size) }
+// A section's pair of the directory.
+fn put_pair(section: Section, offset: usize, size: usize, file: &mut [u8])
+    requires { first_offset ≤ length file.old }
+    ensures { file.new ≡ sets file.old (pair_at (section_number section)) (pair_of offset size) }
 {
-    let at = 1 + PAIR_SIZE * i;
+    let at = section.pair_at();
     put_bytes(offset as u64, OFFSET_SIZE, file, at);
     put_bytes(size as u64, OFFSET_SIZE, file, at + OFFSET_SIZE);
 }
@@ -54,11 +54,11 @@ fn put_head(records: usize, snapshots: usize, file: &mut [u8])
     let at_records = at_totals + TOTALS_SIZE;
     let at_snapshots = at_records + records;
     file[0] = MARKER;
-    put_pair(0, FIRST_OFFSET, INPUTS_SIZE, file);
-    put_pair(1, at_totals, TOTALS_SIZE, file);
-    put_pair(2, at_records, records, file);
-    put_pair(3, at_snapshots, snapshots, file);
-    put_pair(4, at_snapshots + snapshots, LOG_SIZE, file);
+    put_pair(Section::Inputs, FIRST_OFFSET, INPUTS_SIZE, file);
+    put_pair(Section::Totals, at_totals, TOTALS_SIZE, file);
+    put_pair(Section::Records, at_records, records, file);
+    put_pair(Section::Snapshots, at_snapshots, snapshots, file);
+    put_pair(Section::Logs, at_snapshots + snapshots, LOG_SIZE, file);
 }
 
 // The section of the inputs.
@@ -67,7 +67,7 @@ fn put_inputs(inputs: Inputs, file: &mut [u8])
     ensures { file.new ≡ sets file.old first_offset (numbers_bytes (input_numbers inputs)) }
 {
     let numbers = input_numbers(inputs);
-    put_numbers(&numbers, INPUT_COUNT, file, FIRST_OFFSET);
+    put_numbers(&numbers, file, FIRST_OFFSET);
 }
 
 // The section of the totals.
@@ -76,7 +76,7 @@ fn put_totals(summary: Summary, file: &mut [u8])
     ensures { file.new ≡ sets file.old totals_at (numbers_bytes (totals summary)) }
 {
     let numbers = totals_of(summary);
-    put_numbers(&numbers, TOTAL_COUNT, file, FIRST_OFFSET + INPUTS_SIZE);
+    put_numbers(&numbers, file, FIRST_OFFSET + INPUTS_SIZE);
 }
 
 // The file of a run, from its summary, its buffers of records and snapshots, and its logs. Its length. The buffers stay
@@ -101,8 +101,8 @@ pub fn put_file(
     put_head(NUMBER_SIZE * recorded, NUMBER_SIZE * stored, file);
     put_inputs(inputs, file);
     put_totals(summary, file);
-    put_numbers(records, recorded, file, at_records);
-    put_numbers(snapshots, stored, file, at_snapshots);
+    put_numbers(&records[..recorded], file, at_records);
+    put_numbers(&snapshots[..stored], file, at_snapshots);
     let mut over = Overlay {
         out: file,
         at: at_logs,

@@ -1,25 +1,23 @@
 use Rattle.std.proofs.Common.{length, sym, ◌∙◌, arith}
 use borrow.Author.Tests.{leb-true}
-use Rattle.std.proofs.lemmas.Result.{err_from_is_err_and}
 use Rattle.rules.specs.Questions.{run_questions}
 use Rattle.rules.proofs.FirstNo.{let_pass}
 use Rattle.rules.proofs.Found.{network_found}
 use Rattle.archive_writer.specs.Filed.{network_in}
 use Rattle.archive_writer.proofs.Filings.{network_refuses, run_refuses, long, rate_is, counts, too_short, was_filed}
+use Rattle.config.proofs.Unless.{goes_up}
 use Rattle.archive_writer.proofs.file_topology.Goals as goal
 
 pub returns-in_err-network : goal.returns-in_err-network
 returns-in_err-network c =
     let a = c.args in
-    let p = err_from_is_err_and c.from_residual.result c.from_residual.ensures.1 in
-    rw (p.1, p.2) (network_refuses a.inputs a.logs.now a.records.now a.snapshots.now a.file.now _ c.in_err-network.ensures)
+    rw (goes_up c.from_residual.result c.from_residual.ensures.1) (network_refuses a.inputs a.logs.now a.records.now a.snapshots.now a.file.now _ c.in_err-network.ensures)
 
 pub returns-in_err-ask_run : goal.returns-in_err-ask_run
 returns-in_err-ask_run c =
     let a = c.args in
-    let p = err_from_is_err_and c.from_residual-in_err-ask_run.result c.from_residual-in_err-ask_run.ensures.1 in
     let found = network_found (network_in a.inputs) c.in_ok-network.network c.in_ok-network.ensures in
-    rw (p.1, p.2) (run_refuses a.inputs a.logs.now a.records.now a.snapshots.now a.file.now c.in_ok-network.network found _ c.in_err-ask_run.ensures)
+    rw (goes_up c.from_residual-in_err-ask_run.result c.from_residual-in_err-ask_run.ensures.1) (run_refuses a.inputs a.logs.now a.records.now a.snapshots.now a.file.now c.in_ok-network.network found _ c.in_err-ask_run.ensures)
 
 pub fits-requires : goal.fits-requires
 fits-requires c =

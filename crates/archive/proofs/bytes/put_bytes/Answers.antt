@@ -1,11 +1,7 @@
 use Rattle.std.proofs.Common.{◌≡◌, ◌+◌, ◌-◌, take, drop, ◌∙◌, arith}
-use native.Mathlib.Nat.{sub-zero}
 use Rattle.archive.specs.Bytes.{bytes_of}
 use Rattle.archive.proofs.ByteLaws.{bytes_more, length_bytes, sets_all, sets_part}
 use Rattle.archive.proofs.bytes.put_bytes.Goals as goal
-
-pub loop-place-init : goal.loop-place-init
-loop-place-init c = rw sub-zero
 
 pub loop-place-preserved : goal.loop-place-preserved
 loop-place-preserved c =

@@ -4,4 +4,4 @@ use Rattle.archive.specs.Bytes.{numbers_bytes}
 use Rattle.archive.proofs.bytes.put_numbers.Given as goal
 
 abbrev pub invariant-loop-i : goal.invariant-loop-i
-invariant-loop-i l = l.out ≡ sets l.fn.out l.at (numbers_bytes (take l.i l.number-items))
+invariant-loop-i l = l.out ≡ sets l.fn.out l.at (numbers_bytes (take l.i l.numbers))
