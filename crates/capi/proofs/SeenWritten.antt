@@ -23,7 +23,7 @@ use Rattle.preview.specs.Preview.{preview_for}
 use Rattle.preview.proofs.Texts.{seen_have_texts}
 use Rattle.marshal.specs.Packets.{packet_size, packet_numbers}
 use Rattle.marshal.specs.Previews.{preview_result}
-use Rattle.marshal.specs.Texts.{written_from}
+use Rattle.marshal.specs.Texts.{written, written_from}
 use Rattle.marshal.proofs.Back.{packet_length, packet_formed, packet_back}
 use Rattle.capi.specs.Capi.{short, if_room, returned_preview, returned_text, SeenIsWritten}
 use Rattle.capi.proofs.Numbers.{refusal_numbered}
@@ -36,7 +36,7 @@ room packet number done refused h l = rw (le-leb _ _ h, le-leb 1 (length number)
 -- a packet that has a text is written where there is room for any text
 written_from_lem : (p : Packet) (n : ℕ) (behind text written : List ℕ) → has_text n p ≡ true → text_most ≤ length text →
     (written_from (packet_numbers p ++ behind) n text written).0 ≡ 0
-unfolding written_from writing
+unfolding written writing
 written_from_lem p n behind text written fits long =
     rw (packet_formed p behind, packet_back p behind, fits, le-leb (length (packet_text n p)) (length text) (le_trans (no_longer_text n p fits) long))
 

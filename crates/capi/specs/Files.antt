@@ -7,7 +7,8 @@ use Rattle.archive.specs.Layout.{parts_size, parts_told}
 use Rattle.archive_writer.specs.Filing.{Filing, filing_for}
 use Rattle.archive_supersede.specs.Supersede.{which_supersedes}
 use Rattle.marshal.specs.Numbers.{number_result}
-use Rattle.marshal.specs.Files.{layout_result, place_size, superseding_result}
+use Rattle.marshal.specs.Files.{place_size, superseding_result}
+use Rattle.marshal.specs.Numbers.{done_result}
 use Rattle.capi.specs.Capi.{short}
 
 -- the inputs of a call
@@ -36,7 +37,7 @@ returned_filing x logs records snapshots file written =
 
 -- the reader's result, and the slice of the sections' offsets and lengths
 abbrev pub told_result : Result (Unit {0}) Refusal × List ℕ → ℕ × List ℕ
-told_result (answer, parts) = (layout_result answer, parts)
+told_result (answer, parts) = (done_result answer, parts)
 
 unfoldable pub returned_sections : List ℕ → List ℕ → ℕ × List ℕ
 returned_sections file parts = cond (leb parts_size (length parts)) (told_result (parts_told file parts)) (short, parts)

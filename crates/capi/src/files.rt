@@ -12,8 +12,8 @@ use archive_check::check_file;
 use archive_supersede::which_supersedes;
 use archive_writer::file_topology;
 use marshal::convert::config_from;
-use marshal::files::{check_result, layout_result, write_superseding};
-use marshal::numbers::write_count;
+use marshal::files::{check_result, write_superseding};
+use marshal::numbers::{done_result, write_count};
 
 // How many places the sections' offsets and lengths take.
 const PARTS_SIZE: usize = 10;
@@ -78,7 +78,7 @@ pub extern "C" fn ctsim_file_sections(file: &[u8], parts: &mut [u64]) -> u64
     if parts.len() < PARTS_SIZE {
         return SHORT;
     }
-    layout_result(put_parts(file, parts))
+    done_result(&put_parts(file, parts))
 }
 
 // Checks a file: 0 yes, 102 no.

@@ -11,7 +11,7 @@ const INPUT_SIZE: usize = 4096;
 
 fn main(rt: HostRuntime) {
     let mut input = [0u8; INPUT_SIZE];
-    let Some(n) = take_input(&rt, "ctsim", &mut input, true) else {
+    let Some(n) = take_input(&rt, "ctsim", &mut input, |got| got.contains(&b'\n')) else {
         return;
     };
     let mut out = [0u8; LISTING_SIZE];

@@ -34,7 +34,7 @@ fn answer(file: &[u8], out: &mut [u8]) -> usize
 
 // Checks the file on standard input, which is read into a lent buffer. A file that fills it is too long.
 fn check_input(rt: &HostRuntime, input: &mut [u8]) {
-    let Some(n) = take_input(rt, "ctsim-check", input, false) else {
+    let Some(n) = take_input(rt, "ctsim-check", input, |_| false) else {
         return;
     };
     if input.len() <= n {

@@ -33,6 +33,7 @@ fn file_line(line: Line, file: &mut [u8]) -> Result<usize, Refusal>
     let mut logs = [0u8; LOG_SIZE];
     let mut records = [0u64; RECORDS_SIZE];
     let mut snapshots = [0u64; LISTED_SIZE];
+    // No `From<Line>` for `Inputs`: they are types of two crates, and neither uses the other.
     let inputs = Inputs {
         topology: line.topology,
         first: line.first,
@@ -53,7 +54,7 @@ fn file_input(input: &[u8], file: &mut [u8]) -> Result<usize, Refusal>
 
 fn main(rt: HostRuntime) {
     let mut input = [0u8; INPUT_SIZE];
-    let Some(n) = take_input(&rt, "ctsim-file", &mut input, true) else {
+    let Some(n) = take_input(&rt, "ctsim-file", &mut input, |got| got.contains(&b'\n')) else {
         return;
     };
     let mut file = [0u8; FILE_SIZE];

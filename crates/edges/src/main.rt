@@ -87,13 +87,18 @@ fn long_lines(rt: &impl Print) -> io::Result<()> {
     show_line(rt, "5,000 spaces", &spaces)
 }
 
-fn main(rt: HostRuntime) -> io::Result<()> {
-    runs::run_all(&rt)?;
-    ratios(&rt)?;
-    rounded_ratios(&rt)?;
-    greatest_ratios(&rt)?;
-    refused_ratios(&rt)?;
-    lines(&rt)?;
-    odd_bytes(&rt)?;
-    long_lines(&rt)
+fn print_all(rt: &impl Print) -> io::Result<()> {
+    runs::run_all(rt)?;
+    ratios(rt)?;
+    rounded_ratios(rt)?;
+    greatest_ratios(rt)?;
+    refused_ratios(rt)?;
+    lines(rt)?;
+    odd_bytes(rt)?;
+    long_lines(rt)
+}
+
+// A failed write ends it, and is told by nothing else: what is printed is compared.
+fn main(rt: HostRuntime) {
+    let _ = print_all(&rt);
 }

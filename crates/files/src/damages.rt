@@ -1,5 +1,5 @@
 // What is done to a file before it is looked at.
-ghost use Rattle.std.specs.Prelude.{◌≤◌, ◌<◌, ◌≡◌, length};
+ghost use Rattle.std.specs.Prelude.{◌≤◌, ◌<◌, length};
 
 // By HOW and N. The places are taken modulo the file's bits or bytes.
 #[derive(Clone, Copy)]
@@ -25,19 +25,17 @@ fn below(size: usize, n: u64) -> usize
     n as usize % size
 }
 
-fn flip(file: &mut [u8], size: usize, n: u64)
-    requires { (0 < size) × (size ≤ length file.old) }
-    ensures { length file.new ≡ length file.old }
+fn flip(file: &mut [u8], n: u64)
+    requires { 0 < length file.old }
 {
-    let place = below(size, n / 8);
+    let place = below(file.len(), n / 8);
     file[place] ^= 1 << (n % 8);
 }
 
-fn set(file: &mut [u8], size: usize, n: u64)
-    requires { (0 < size) × (size ≤ length file.old) }
-    ensures { length file.new ≡ length file.old }
+fn set(file: &mut [u8], n: u64)
+    requires { 0 < length file.old }
 {
-    let place = below(size, n / 256);
+    let place = below(file.len(), n / 256);
     file[place] = (n % 256) as u8;
 }
 
@@ -49,11 +47,11 @@ pub fn damaged(file: &mut [u8], size: usize, damage: Damage) -> usize
 {
     match damage {
         Damage::Flip(n) => {
-            flip(file, size, n);
+            flip(&mut file[..size], n);
             size
         }
         Damage::Set(n) => {
-            set(file, size, n);
+            set(&mut file[..size], n);
             size
         }
         Damage::Cut(n) => below(size + 1, n),

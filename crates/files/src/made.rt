@@ -37,6 +37,7 @@ pub fn file_line(line: Line, room: u64, file: &mut [u8]) -> Result<usize, Refusa
     let mut logs = [MARK; LOG_SIZE];
     let mut records = [u64::from(MARK); RECORDS_SIZE];
     let mut snapshots = [u64::from(MARK); SNAPSHOTS_SIZE];
+    // No `From<Line>` for `Inputs`: they are types of two crates, and neither uses the other.
     let inputs = Inputs {
         topology: line.topology,
         first: line.first,

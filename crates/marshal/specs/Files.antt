@@ -1,15 +1,10 @@
--- The results of the reader and the check of archive files, and of which of two supersedes (rules 9.4, 16.8 and 17.6).
+-- The results of the check of archive files, and of which of two supersedes (rules 9.4, 16.8 and 17.6).
 use Rattle.std.specs.Prelude.{ℕ, Bool, true, false, List, [], ◌∷◌, Result, Ok, Err}
 use Rattle.std.proofs.lemmas.List.Edits.{sets}
 use Rattle.config.specs.Refusals.{number_of}
 use Rattle.config.specs.declared.refusal.Refusal.{Refusal}
 use Rattle.archive_supersede.specs.declared.Place.{Place}
 use Rattle.archive_supersede.specs.declared.Superseding.{Superseding}
-
--- the reader's result
-abbrev pub layout_result : Result (Unit {0}) Refusal → ℕ
-layout_result (Ok x) = 0
-layout_result (Err r) = number_of r
 
 -- the check's: 0 is yes
 abbrev pub checked_no : ℕ

@@ -9,12 +9,15 @@ use Rattle.marshal.specs.Packets.{packet_numbers, formed, packet_at}
 
 -- the result, the text's slice and that of its length
 abbrev pub writing_result : Result ℕ Refusal × List ℕ → List ℕ → ℕ × List ℕ × List ℕ
-writing_result (Ok size, text) written = (0, text, sets written 0 (size ∷ []))
-writing_result (Err r, text) written = (number_of r, text, written)
+writing_result (Ok n, text) size = (0, text, sets size 0 (n ∷ []))
+writing_result (Err r, text) size = (number_of r, text, size)
 
 -- the packet that the numbers are, written; numbers that are no packet's have no text
-unfoldable pub written_from : List ℕ → ℕ → List ℕ → List ℕ → ℕ × List ℕ × List ℕ
-written_from numbers n text written = cond (formed numbers) (writing_result (writing (packet_at numbers) n text) written) (number_of Refusal.NoText, text, written)
+unfoldable pub written : List ℕ → ℕ → List ℕ → Result ℕ Refusal × List ℕ
+written numbers n text = cond (formed numbers) (writing (packet_at numbers) n text) (Err Refusal.NoText, text)
+
+abbrev pub written_from : List ℕ → ℕ → List ℕ → List ℕ → ℕ × List ℕ × List ℕ
+written_from numbers n text size = writing_result (written numbers n text) size
 
 -- the result, the packet's slice and that of its number of flags
 abbrev pub reading_result : Result (Packet × ℕ) Refusal → List ℕ → List ℕ → ℕ × List ℕ × List ℕ

@@ -3,9 +3,11 @@ ghost use Rattle.std.specs.Prelude.{ℕ, ◌≤◌, ◌≡◌, List, Float, leng
 ghost use Rattle.std.proofs.lemmas.List.Edits.{sets};
 ghost use Rattle.marshal.specs.Convert.{summary_size, slots_from, config_from, summary_numbers, summary_at, ratio_result, result_of, with_summary};
 
+use super::numbers::done_result;
 use config::Config;
 use config::refusal::Refusal;
 use metrics::summary::Summary;
+use metrics::totals::{TOTAL_COUNT, totals_of};
 
 // How many places a summary has.
 pub const SUMMARY_SIZE: usize = 17;
@@ -52,23 +54,9 @@ fn write_summary(s: Summary, out: &mut [u64])
     requires { summary_size ≤ length out.old }
     ensures { out.new ≡ sets out.old 0 (summary_numbers s) }
 {
-    out[0] = s.nodes;
-    out[1] = s.rounds;
-    out[2] = s.slots;
-    out[3] = s.ended;
-    out[4] = s.listen;
-    out[5] = s.flood;
-    out[6] = s.sleep;
-    out[7] = s.attempts;
-    out[8] = s.successes;
-    out[9] = s.flood_rounds;
-    out[10] = s.flood_nodes;
-    out[11] = s.covered;
-    out[12] = s.took_part;
-    out[13] = s.nacks;
-    out[14] = s.piggybacks;
-    out[15] = s.records;
-    out[16] = s.snapshots;
+    out[..TOTAL_COUNT].copy_from_slice(&totals_of(s));
+    out[TOTAL_COUNT] = s.records;
+    out[TOTAL_COUNT + 1] = s.snapshots;
 }
 
 // The summary that was written to these places.
@@ -117,11 +105,8 @@ pub fn write_answer(answer: Result<Summary, Refusal>, out: &mut [u64]) -> u64
     requires { summary_size ≤ length out.old }
     ensures { ◌≡◌ {A = ℕ × List ℕ} (result, out.new) (result_of answer, with_summary answer out.old) }
 {
-    match answer {
-        Ok(summary) => {
-            write_summary(summary, out);
-            0
-        }
-        Err(refusal) => refusal.number(),
+    if let Ok(summary) = answer {
+        write_summary(summary, out);
     }
+    done_result(&answer)
 }

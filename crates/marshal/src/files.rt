@@ -1,8 +1,9 @@
-// The results of the reader and the check of archive files, and of which of two supersedes.
+// The results of the check of archive files, and of which of two supersedes.
 ghost use Rattle.std.specs.Prelude.{ℕ, ◌≤◌, ◌≡◌, List, length};
 ghost use Rattle.std.proofs.lemmas.List.Edits.{sets};
-ghost use Rattle.marshal.specs.Files.{layout_result, check_result, place_size, place_numbers, superseding_result};
+ghost use Rattle.marshal.specs.Files.{check_result, place_size, place_numbers, superseding_result};
 
+use super::numbers::done_result;
 use archive_supersede::{Place, Superseding};
 use config::refusal::Refusal;
 
@@ -13,16 +14,6 @@ pub const CHECKED_NO: u64 = 102;
 const FIRST_FILE: u64 = 0;
 
 const SECOND_FILE: u64 = 1;
-
-// The reader's result.
-pub fn layout_result(answer: Result<(), Refusal>) -> u64
-    ensures { result ≡ layout_result answer }
-{
-    match answer {
-        Ok(()) => 0,
-        Err(refusal) => refusal.number(),
-    }
-}
 
 // The check's result.
 pub fn check_result(answer: Result<bool, Refusal>) -> u64
@@ -51,14 +42,9 @@ pub fn write_superseding(answer: Result<Superseding, Refusal>, part: &mut [u64])
     ensures { ◌≡◌ {A = ℕ × List ℕ} (result, part.new) (superseding_result answer part.old) }
 {
     match answer {
-        Ok(Superseding::First(place)) => {
-            put_place(FIRST_FILE, place, part);
-            0
-        }
-        Ok(Superseding::Second(place)) => {
-            put_place(SECOND_FILE, place, part);
-            0
-        }
-        Err(refusal) => refusal.number(),
+        Ok(Superseding::First(place)) => put_place(FIRST_FILE, place, part),
+        Ok(Superseding::Second(place)) => put_place(SECOND_FILE, place, part),
+        Err(_) => {}
     }
+    done_result(&answer)
 }

@@ -1,21 +1,29 @@
-// The result of a call that has a number for an answer.
+// The results of calls: 0, or the number of the refusal.
 ghost use Rattle.std.specs.Prelude.{ℕ, ◌≤◌, ◌≡◌, List, length};
-ghost use Rattle.marshal.specs.Numbers.{number_result};
+ghost use Rattle.marshal.specs.Numbers.{done_result, number_result};
 
 use config::refusal::Refusal;
 
-// The result; the number is written if there is one.
+// The result of a call that has this answer, whatever it answers with.
+pub fn done_result<T>(answer: &Result<T, Refusal>) -> u64
+    ensures { result ≡ done_result answer.now }
+{
+    match answer {
+        Ok(_) => 0,
+        Err(refusal) => refusal.number(),
+    }
+}
+
+// The result of a call that has a number for an answer; the number is written if there is one. A slice, here and in `convert`, as
+// C lends one: `capi` asks for its place.
 pub fn write_number(answer: Result<u64, Refusal>, out: &mut [u64]) -> u64
     requires { 1 ≤ length out.old }
     ensures { ◌≡◌ {A = ℕ × List ℕ} (result, out.new) (number_result answer out.old) }
 {
-    match answer {
-        Ok(n) => {
-            out[0] = n;
-            0
-        }
-        Err(refusal) => refusal.number(),
+    if let Ok(n) = answer {
+        out[0] = n;
     }
+    done_result(&answer)
 }
 
 // And of a call whose answer is a count.

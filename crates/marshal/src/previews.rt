@@ -3,6 +3,7 @@ ghost use Rattle.std.specs.Prelude.{ℕ, ◌≤◌, ◌≡◌, List, length};
 ghost use Rattle.marshal.specs.Packets.{packet_size};
 ghost use Rattle.marshal.specs.Previews.{preview_result};
 
+use super::numbers::done_result;
 use super::packets::put_numbers;
 use config::refusal::Refusal;
 use rules::answer::SeenRound;
@@ -17,12 +18,9 @@ pub fn write_preview(
     ensures { ◌≡◌ {A = ℕ × List ℕ × List ℕ} (result, packet.new, part.new)
         (preview_result answer packet.old part.old) }
 {
-    match answer {
-        Ok(seen) => {
-            put_numbers(seen.packet, packet);
-            part[0] = seen.part;
-            0
-        }
-        Err(refusal) => refusal.number(),
+    if let Ok(seen) = answer {
+        put_numbers(seen.packet, packet);
+        part[0] = seen.part;
     }
+    done_result(&answer)
 }

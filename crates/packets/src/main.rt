@@ -10,10 +10,10 @@ ghost use Rattle.marshal.specs.Packets.{packet_size};
 
 use config::refusal::Refusal;
 use line::read::{field, field_start};
-use marshal::packets::PACKET_SIZE;
-use marshal::texts::{write_reading, write_text};
+use marshal::packets::{PACKET_SIZE, put_numbers};
+use marshal::texts::put_text;
 use std::io;
-use streams::read_full;
+use streams::answer_lines;
 use text::numeral::decimal;
 use wire::put::TEXT_SIZE;
 use wire_reader::read_packet;
@@ -37,29 +37,29 @@ fn print_text(rt: &impl Print, line: &[u8]) -> io::Result<()> {
         return println!(rt; "{}", Refusal::UnreadableLine);
     };
     let mut text = [0u8; TEXT_SIZE];
-    let mut written = [0u64; 1];
-    let result = write_text(&packet, flags, &mut text, &mut written);
-    if result != 0 {
-        return println!(rt; "refused {result}");
+    match put_text(&packet, flags, &mut text) {
+        Ok(size) => {
+            rt.write_all(&text[..size.min(TEXT_SIZE)])?;
+            println!(rt; "")
+        }
+        Err(refusal) => println!(rt; "{refusal}"),
     }
-    let size = TEXT_SIZE.min(written[0] as usize);
-    rt.write_all(&text[..size])?;
-    println!(rt; "")
 }
 
 // Prints the packet of a text.
 fn print_packet(rt: &impl Print, text: &[u8]) -> io::Result<()> {
-    let mut packet = [0u64; PACKET_SIZE];
-    let mut flags = [0u64; 1];
-    let result = write_reading(read_packet(text), &mut packet, &mut flags);
-    if result != 0 {
-        return println!(rt; "refused {result}");
+    match read_packet(text) {
+        Ok((packet, flags)) => {
+            let mut numbers = [0u64; PACKET_SIZE];
+            put_numbers(packet, &mut numbers);
+            print!(rt; "packet {flags}")?;
+            for n in &numbers {
+                print!(rt; " {n}")?;
+            }
+            println!(rt; "")
+        }
+        Err(refusal) => println!(rt; "{refusal}"),
     }
-    print!(rt; "packet {}", flags[0])?;
-    for n in &packet {
-        print!(rt; " {n}")?;
-    }
-    println!(rt; "")
 }
 
 fn answer(rt: &impl Print, line: &[u8]) -> io::Result<()> {
@@ -70,12 +70,7 @@ fn answer(rt: &impl Print, line: &[u8]) -> io::Result<()> {
     print_packet(rt, &line[at..])
 }
 
-// Answers one line after another.
-fn main(rt: HostRuntime) -> io::Result<()> {
-    let mut input = [0u8; INPUT_SIZE];
-    let n = read_full(&mut rt.stdin(), &mut input);
-    for line in input[..n].split_inclusive(|&byte| byte == b'\n') {
-        answer(&rt, line.strip_suffix(b"\n").unwrap_or(line))?;
-    }
-    Ok(())
+// A failed write ends it, and is told by nothing else: what is printed is compared.
+fn main(rt: HostRuntime) {
+    let _ = answer_lines(&rt, &mut [0u8; INPUT_SIZE], |line| answer(&rt, line));
 }

@@ -19,6 +19,7 @@ fn answer_line(line: Line, out: &mut [u8]) -> usize
     let mut logs = [0u8; LOG_SIZE];
     let mut records = [0u64; RECORDS_SIZE];
     let mut snapshots = [0u64; LISTED_SIZE];
+    // No `From<Line>` for `Asked`: they are types of two crates, and neither uses the other.
     let asked = Asked::Topology(line.topology, line.first, line.second);
     let config = Config::from(line);
     match run(asked, config, &mut logs, &mut records, &mut snapshots) {

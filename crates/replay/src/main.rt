@@ -27,7 +27,7 @@ use rounds_shown::show_round;
 use rules::networks::Asked;
 use sim::entries::run;
 use std::io;
-use streams::read_full;
+use streams::answer_lines;
 use sweeps_shown::{Seeds, show_sweep};
 use text::numeral::{decimal, numeral};
 use validities_shown::show_validity;
@@ -37,17 +37,13 @@ const INPUT_SIZE: usize = 131072;
 // More than a readable configuration has.
 const CONFIG: usize = 256;
 
+// What a line with rows begins with.
+const ROWS: &[u8] = b"rows ";
+
 // The sets of all nodes, and one too many.
 const SETS: usize = MAX_NODES + 1;
 
-// What a line asks for.
-#[derive(Clone, Copy)]
-enum Wanted {
-    Run,
-    Round(u64),
-    Sweep(Seeds),
-    Validity,
-}
+const SET_DIGITS: usize = 8;
 
 // The set that 8 hexadecimal digits stand for, the empty set where they stand for none.
 fn set_of(digits: &[u8]) -> u32 {
@@ -59,9 +55,9 @@ fn sets(text: &[u8]) -> [u32; SETS]
     ensures { 33 ≡ length result }
 {
     let mut rows = [0u32; SETS];
-    for (i, row) in rows.iter_mut().enumerate() {
-        if 9 * i + 8 <= text.len() {
-            *row = set_of(&text[9 * i..9 * i + 8]);
+    for (row, digits) in rows.iter_mut().zip(text.chunks(SET_DIGITS + 1)) {
+        if SET_DIGITS <= digits.len() {
+            *row = set_of(&digits[..SET_DIGITS]);
         }
     }
     rows
@@ -91,60 +87,62 @@ fn show_run(rt: &impl Print, asked: Asked, config: Config) -> io::Result<()> {
     }
 }
 
-// Prints what is wanted of a configuration on the network that is asked for.
-fn show(rt: &impl Print, asked: Asked, config: Config, wanted: Wanted) -> io::Result<()> {
-    match wanted {
-        Wanted::Run => show_run(rt, asked, config),
-        Wanted::Round(k) => show_round(rt, asked, config, k),
-        Wanted::Sweep(seeds) => show_sweep(rt, asked, config, seeds),
-        Wanted::Validity => show_validity(rt, asked, config),
-    }
-}
-
 fn show_unreadable(rt: &impl Print) -> io::Result<()> {
     println!(rt; "{}", Refusal::UnreadableLine)
 }
 
-// The answer to a line `rows NODES SETS`, followed by the configuration.
-fn answer_rows(rt: &impl Print, line: &[u8], wanted: Wanted) -> io::Result<()> {
+// The answer to a line `rows NODES SETS`, followed by the configuration: what `show` prints of them.
+fn answer_rows<F: Fn(Asked, Config) -> io::Result<()>>(
+    rt: &impl Print,
+    line: &[u8],
+    show: F,
+) -> io::Result<()>
+    requires { F.IsAlwaysCallable show }
+{
     let Some(nodes) = decimal(field(line, 1)) else {
         return show_unreadable(rt);
     };
     let text = field(line, 2);
     let rows = sets(text);
-    let count = ((text.len() + 1) / 9).min(SETS);
+    let count = ((text.len() + 1) / (SET_DIGITS + 1)).min(SETS);
     let at = field_start(line, 3);
     match read_config(&line[at..]) {
-        Ok(config) => show(rt, Asked::Rows(&rows[..count], nodes), config, wanted),
-        Err(refusal) => println!(rt; "{refusal}"),
-    }
-}
-
-// The answer to the program's line. Its run is the program's own.
-fn answer_topology(rt: &impl Print, line: &[u8], wanted: Wanted) -> io::Result<()> {
-    if let Wanted::Run = wanted {
-        let mut out = [0u8; LISTING_SIZE];
-        let size = program::answer(line, &mut out);
-        return rt.write_all(&out[..size]);
-    }
-    match read_line(line) {
-        Ok(l) => {
-            let asked = Asked::Topology(l.topology, l.first, l.second);
-            show(rt, asked, Config::from(l), wanted)
-        }
+        Ok(config) => show(Asked::Rows(&rows[..count], nodes), config),
         Err(refusal) => println!(rt; "{refusal}"),
     }
 }
 
 // The answer to a line of rows, or to the program's, that begins at field k.
-fn answer_wanted(rt: &impl Print, line: &[u8], k: usize, wanted: Wanted) -> io::Result<()> {
+fn answer_from<F: Fn(Asked, Config) -> io::Result<()>>(
+    rt: &impl Print,
+    line: &[u8],
+    k: usize,
+    show: F,
+) -> io::Result<()>
+    requires { F.IsAlwaysCallable show }
+{
     let at = field_start(line, k);
-    let line = &line[at..];
-    if line.starts_with(b"rows ") {
-        answer_rows(rt, line, wanted)
-    } else {
-        answer_topology(rt, line, wanted)
+    let rest = &line[at..];
+    if rest.starts_with(ROWS) {
+        return answer_rows(rt, rest, show);
     }
+    match read_line(rest) {
+        Ok(l) => show(
+            Asked::Topology(l.topology, l.first, l.second),
+            Config::from(l),
+        ),
+        Err(refusal) => println!(rt; "{refusal}"),
+    }
+}
+
+// The answer to a line of rows, or to the program's, whose run is the program's own.
+fn answer_run(rt: &impl Print, line: &[u8]) -> io::Result<()> {
+    if line.starts_with(ROWS) {
+        return answer_rows(rt, line, |asked, config| show_run(rt, asked, config));
+    }
+    let mut out = [0u8; LISTING_SIZE];
+    let size = program::answer(line, &mut out);
+    rt.write_all(&out[..size])
 }
 
 // The seeds of `sweep LENGTH COUNT FIRST STEP`.
@@ -159,30 +157,36 @@ fn seeds_in(line: &[u8]) -> Option<Seeds> {
 
 // The answer to a line, or to one behind `round K`, a sweep's seeds or `validity`.
 fn answer(rt: &impl Print, line: &[u8]) -> io::Result<()> {
-    if line.starts_with(b"sweep ") {
-        return match seeds_in(line) {
-            Some(seeds) => answer_wanted(rt, line, 5, Wanted::Sweep(seeds)),
+    match field(line, 0) {
+        b"sweep" => match seeds_in(line) {
+            Some(seeds) => answer_from(
+                rt,
+                line,
+                5,
+                |asked, config| show_sweep(rt, asked, config, seeds),
+            ),
             None => show_unreadable(rt),
-        };
-    }
-    if line.starts_with(b"validity ") {
-        return answer_wanted(rt, line, 1, Wanted::Validity);
-    }
-    if line.starts_with(b"round ") {
-        return match decimal(field(line, 1)) {
-            Some(k) => answer_wanted(rt, line, 2, Wanted::Round(k)),
+        },
+        b"round" => match decimal(field(line, 1)) {
+            Some(k) => answer_from(
+                rt,
+                line,
+                2,
+                |asked, config| show_round(rt, asked, config, k),
+            ),
             None => show_unreadable(rt),
-        };
+        },
+        b"validity" => answer_from(
+            rt,
+            line,
+            1,
+            |asked, config| show_validity(rt, asked, config),
+        ),
+        _ => answer_run(rt, line),
     }
-    answer_wanted(rt, line, 0, Wanted::Run)
 }
 
-// Answers one line after another.
-fn main(rt: HostRuntime) -> io::Result<()> {
-    let mut input = [0u8; INPUT_SIZE];
-    let n = read_full(&mut rt.stdin(), &mut input);
-    for line in input[..n].split_inclusive(|&byte| byte == b'\n') {
-        answer(&rt, line.strip_suffix(b"\n").unwrap_or(line))?;
-    }
-    Ok(())
+// A failed write ends it, and is told by nothing else: what is printed is compared.
+fn main(rt: HostRuntime) {
+    let _ = answer_lines(&rt, &mut [0u8; INPUT_SIZE], |line| answer(&rt, line));
 }

@@ -47,13 +47,18 @@ fn kept(places: &[u64]) -> usize {
     places.iter().filter(|&&place| place == MARK).count()
 }
 
+fn print_line(rt: &impl Print, numbers: &[u64]) -> io::Result<()> {
+    let mut between = "";
+    for n in numbers {
+        print!(rt; "{between}{n}")?;
+        between = " ";
+    }
+    println!(rt; "")
+}
+
 fn print_lines(rt: &impl Print, numbers: &[u64]) -> io::Result<()> {
-    for (i, n) in numbers.iter().enumerate() {
-        if i % SWEPT_SIZE == SWEPT_SIZE - 1 {
-            println!(rt; "{n}")?;
-        } else {
-            print!(rt; "{n} ")?;
-        }
+    for line in numbers.chunks(SWEPT_SIZE) {
+        print_line(rt, line)?;
     }
     Ok(())
 }

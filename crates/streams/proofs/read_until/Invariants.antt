@@ -1,5 +1,5 @@
 use Rattle.std.proofs.Common.{length, ◌-◌, ◌≤◌, ◌≡◌}
-use Rattle.streams.proofs.read_input.Given as goal
+use Rattle.streams.proofs.read_until.Given as goal
 
 abbrev pub invariant-loop-done : goal.invariant-loop-done
 invariant-loop-done g l = (length l.buf ≡ length l.fn.buf) × (l.done ≤ length l.buf)
