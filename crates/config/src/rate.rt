@@ -8,7 +8,7 @@ const SIGN: u64 = 0x8000_0000_0000_0000;
 
 const INFINITY: u64 = 0x7ff0_0000_0000_0000;
 
-// The f64 with these bits.
+// The f64 with these bits. A NaN's bits are not kept: all patterns above infinity give the one NaN.
 #[tactic(auto, using(crate::proofs::Rates::no_nan, crate::proofs::Rates::some_nan))]
 pub fn rate_of(bits: u64) -> f64
     ensures { result ≡ of_bits binary64 bits }

@@ -18,7 +18,7 @@ fn checksum(rows: &[u32]) -> u64 {
     sum
 }
 
-// By rows and their number, as `measure` is asked.
+// By rows and their number here and below, as `measure` is asked.
 fn put_diameter(rt: &impl Print, rows: &[u32], n: u64) -> io::Result<()> {
     match measure(rows, n) {
         Ok(d) => print!(rt; " {d}"),
@@ -26,7 +26,8 @@ fn put_diameter(rt: &impl Print, rows: &[u32], n: u64) -> io::Result<()> {
     }
 }
 
-// Builds a topology, and prints the line of one that is accepted.
+// Builds a topology, and prints the line of one that is accepted. The three numbers stand apart, here and below, as `rows`
+// takes them.
 fn show(
     rt: &impl Print,
     topology: u64,
@@ -92,7 +93,7 @@ fn sweep(rt: &impl Print, topology: u64) -> io::Result<()> {
     )
 }
 
-// The number of a refusal, and 0 where there is none.
+// The number of a refusal, and 0 where there is none. As `done_result` of `marshal`, which brings in all that C calls.
 fn number_of(answer: Result<(), Refusal>) -> u64 {
     match answer {
         Ok(()) => 0,
@@ -144,6 +145,7 @@ fn show_built(
 ) -> io::Result<()> {
     out.fill(77);
     let answer = rows(topology, first, second, out);
+    // Also in `edges` and `replay`: programs share the libraries alone.
     let kept = out.iter().filter(|row| **row == 77).count();
     match answer {
         Ok(n) => println!(rt; "rows of {name}: nodes {n} kept {kept}"),

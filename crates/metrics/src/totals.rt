@@ -6,7 +6,7 @@ use super::summary::Summary;
 
 pub const TOTAL_COUNT: usize = 15;
 
-// In their order.
+// In their order. No `From`: two of the summary's numbers are left out.
 pub fn totals_of(s: Summary) -> [u64; TOTAL_COUNT]
     ensures { result ≡ totals s }
 {

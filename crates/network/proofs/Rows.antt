@@ -2,12 +2,13 @@
 -- Assumes nothing.
 use mathlib.Core.Path.{◌≡◌, sym, ap, ap₂, ◌∙◌, subst}
 use mathlib.Core.List.{List, [], ◌∷◌, ◌++◌, append_assoc}
-use Prim.Native.Nat.{ℕ, zero, suc, ◌+◌, ◌-◌, ◌≤◌, ◌<◌}
+use Prim.Native.Nat.{ℕ, suc, ◌+◌, ◌-◌, ◌≤◌, ◌<◌}
 use native.Mathlib.Nat.{le_of_lt, le_of_eq, le_refl}
 use native.Mathlib.Omega.{arith}
 use native.Mathlib.Numerals.{add-one}
 use lib.ListN.{length, get_or, set, take, drop, replicate, length-append, get_or-append}
 use lib.Seq.{drop-cons, set_at, length-take-le, take-suc, take_at, take_all, get_or-take}
+use Rattle.std.proofs.lemmas.List.{drop-replicate}
 use Rattle.network.specs.Graph.{widened}
 use Rattle.config.specs.Limits.{max_nodes}
 
@@ -24,14 +25,9 @@ rows_copied rows d i h l =
 pub widened_more : (rows : List ℕ) (i : ℕ) → i < length rows → i < max_nodes → set (widened rows i) i (get_or rows i 0) ≡ widened rows (i + 1)
 unfolding widened
 widened_more rows i h m =
-    ap (λ (r : List ℕ). set (take i rows ++ r) i (get_or rows i 0)) (sym (dropped max_nodes i))
+    ap (λ (r : List ℕ). set (take i rows ++ r) i (get_or rows i 0)) (sym (drop-replicate i max_nodes 0))
     ∙ rows_copied rows (replicate max_nodes 0) i h m
-    ∙ ap (λ (r : List ℕ). take (i + 1) rows ++ r) (dropped max_nodes (i + 1))
-  where
-    dropped : (m k : ℕ) → drop {A = ℕ} k (replicate m 0) ≡ replicate (m - k) 0
-    dropped m zero = let e : m ≡ m - 0 = omega arith in ap (λ (k : ℕ). replicate k 0) e
-    dropped zero (suc k) = let e : 0 ≡ 0 - suc k = omega arith in ap (λ (k : ℕ). replicate k 0) e
-    dropped (suc m) (suc k) = let e : m - k ≡ suc m - suc k = omega arith in dropped m k ∙ ap (λ (k : ℕ). replicate k 0) e
+    ∙ ap (λ (r : List ℕ). take (i + 1) rows ++ r) (drop-replicate (i + 1) max_nodes 0)
 
 pub get_d_widened : (rows : List ℕ) (n : ℕ) → n ≤ length rows → (i : ℕ) → i < n → get_or (widened rows n) i 0 ≡ get_or rows i 0
 unfolding widened

@@ -72,33 +72,33 @@ has_added s t j =
     let e : bit_or s t - s ≡ t - bit_and t s = omega (arith, or_add_and s t, bitAnd-comm s t, and_le_l t s) in
     ap (λ (x : ℕ). has x j) e ∙ has_minus t s j
 
--- of the nodes that a link joins to one not reached, `edge` has those reached
-pub record Edge (rows : List ℕ) (n reached edge : ℕ) : Type 0 where
-  pub small : edge < 2 ^ n
-  pub holds : (i j : ℕ) → i < n → j < n → linked rows i j ≡ true → has reached j ≡ false → has edge i ≡ has reached i
+-- of the nodes that a link joins to one not reached, `latest` has those reached
+pub record Latest (rows : List ℕ) (n reached latest : ℕ) : Type 0 where
+  pub small : latest < 2 ^ n
+  pub holds : (i j : ℕ) → i < n → j < n → linked rows i j ≡ true → has reached j ≡ false → has latest i ≡ has reached i
 
-module _ (rows : List ℕ) (n : ℕ) {reached edge found : ℕ} (small : reached < 2 ^ n) (x : Edge rows n reached edge) (is : found ≡ set_of n (touches rows edge n)) where
+module _ (rows : List ℕ) (n : ℕ) {reached latest found : ℕ} (small : reached < 2 ^ n) (x : Latest rows n reached latest) (is : found ≡ set_of n (touches rows latest n)) where
   -- so its neighbours are all that a step adds
-  pub edge_spread : bit_or reached found ≡ spread rows n reached
+  pub latest_spread : bit_or reached found ≡ spread rows n reached
   unfolding touches near
-  edge_spread =
-      set_ext n (or_lt n reached found small (rw is (set_of_lt n (touches rows edge n)))) (spread_lt rows reached n)
+  latest_spread =
+      set_ext n (or_lt n reached found small (rw is (set_of_lt n (touches rows latest n)))) (spread_lt rows reached n)
       (λ j h.
       has_or reached found j
       ∙ or_same (has reached j)
-      (λ u. ap (λ (s : ℕ). has s j) is ∙ has_set_of n (touches rows edge n) j h ∙ any_cong n (λ i l. and_same (linked rows i j) (λ e. x.holds i j l h e u)))
+      (λ u. ap (λ (s : ℕ). has s j) is ∙ has_set_of n (touches rows latest n) j h ∙ any_cong n (λ i l. and_same (linked rows i j) (λ e. x.holds i j l h e u)))
       ∙ sym (has_spread rows reached n j h))
 
-  -- and the nodes that it adds are the next edge
-  pub edge_next : Edge rows n (bit_or reached found) (bit_or reached found - reached)
+  -- and the nodes that it adds are the latest after it
+  pub latest_next : Latest rows n (bit_or reached found) (bit_or reached found - reached)
   unfolding near
-  edge_next =
-      let lt : bit_or reached found < 2 ^ n = rw edge_spread (spread_lt rows reached n) in
+  latest_next =
+      let lt : bit_or reached found < 2 ^ n = rw latest_spread (spread_lt rows reached n) in
       record { small = omega arith; holds = holds }
     where
       grown : (i j : ℕ) → i < n → j < n → linked rows i j ≡ true → has reached i ≡ true → has (bit_or reached found) j ≡ true
       grown i j hi hj l e =
-          ap (λ (s : ℕ). has s j) edge_spread
+          ap (λ (s : ℕ). has s j) latest_spread
           ∙ has_spread rows reached n j hj
           ∙ or_right (has reached j) (any n (λ i. has reached i && linked rows i j)) (any_intro n (λ i. has reached i && linked rows i j) i hi (ap₂ ◌&&◌ e l))
 

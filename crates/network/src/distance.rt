@@ -11,13 +11,13 @@ use crate::units::NodeId;
 use config::refusal::Refusal;
 
 impl Graph {
-    // The nodes that a link joins to one of `edge`: the union of the rows of its nodes.
-    fn linked_to(&self, edge: u64) -> u64
-        requires { (self.now.nodes ≤ max_nodes) × (Checked self.now.rows self.now.nodes × (edge < 2 ^ self.now.nodes)) }
-        ensures { result ≡ set_of self.now.nodes (λ j. any self.now.nodes (λ i. has edge i && linked self.now.rows i j)) }
+    // The nodes that a link joins to one of `latest`: the union of the rows of its nodes.
+    fn linked_to(&self, latest: u64) -> u64
+        requires { (self.now.nodes ≤ max_nodes) × (Checked self.now.rows self.now.nodes × (latest < 2 ^ self.now.nodes)) }
+        ensures { result ≡ set_of self.now.nodes (λ j. any self.now.nodes (λ i. has latest i && linked self.now.rows i j)) }
     {
         let mut found = 0;
-        for t in members_of(edge) {
+        for t in members_of(latest) {
             found |= self.rows[t];
         }
         found
@@ -30,16 +30,16 @@ impl Graph {
         ensures { result ≡ eccentricity self.now.rows self.now.nodes a.0 }
     {
         let mut reached: u64 = 1 << a.0;
-        let mut edge = reached;
+        let mut latest = reached;
         let mut k = 0;
         let all = full_set(self.nodes);
         // No index is counted: k is the answer, and how many steps there are is not known before.
         while reached != all {
-            let next = reached | self.linked_to(edge);
+            let next = reached | self.linked_to(latest);
             if next == reached {
                 return k;
             }
-            edge = next - reached;
+            latest = next - reached;
             reached = next;
             k += 1;
         }

@@ -1,4 +1,5 @@
-// Graphs as rows: a row is a node's set of neighbours, bit j for node j. Inside, sets are 64 bits wide.
+// Graphs as rows: a row is a node's set of neighbours, bit j for node j. Inside, sets are 64 bits wide. A set is
+// a word and no type: C, rows and packets give it as a number, and definitions reckon with it.
 ghost use Rattle.std.specs.Prelude.{◌≡◌, ◌-◌, ◌^◌, ◌≤◌, ◌<◌, length, get_or};
 ghost use Rattle.network.specs.Graph.{has, backed, row_backed, rows_right, widened};
 ghost use Rattle.config.specs.Limits.{set_bits, max_nodes};
@@ -40,6 +41,7 @@ pub fn widen(rows: &[u32]) -> [u64; MAX_NODES]
     ensures { result ≡ widened rows.now (length rows.now) }
 {
     let mut wide = [0u64; MAX_NODES];
+    // By index, as in `copy_rows`.
     for (i, &row) in rows.iter().enumerate() {
         wide[i] = row as u64;
     }
@@ -69,7 +71,7 @@ impl Graph {
         if full_set(self.nodes) < set {
             return false;
         }
-        !has(set, i.0) & self.backed(i)
+        !has(set, i.0) && self.backed(i)
     }
 
     // Whether the rows have no bit at or above the number of nodes, no own bit, and j in i exactly when i in j.

@@ -21,7 +21,7 @@ impl Iterator for Members {
         if self.left == 0 {
             return None;
         }
-        let lowest = u64::trailing_zeros(self.left) as usize;
+        let lowest = self.left.trailing_zeros() as usize;
         self.left &= self.left - 1;
         Some(lowest)
     }

@@ -6,5 +6,5 @@ ghost use Rattle.network.specs.Questions.{within};
 pub fn lies_in(lo: u64, hi: u64, x: u64) -> bool
     ensures { result ≡ within lo hi x }
 {
-    (lo <= x) & (x <= hi)
+    (lo..=hi).contains(&x)
 }

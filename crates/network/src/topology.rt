@@ -29,9 +29,8 @@ fn topology_rows(t: Topology, n: usize) -> [u64; MAX_NODES]
     ensures { result ≡ widened (topology_rows t n) n }
 {
     let mut wide = [0u64; MAX_NODES];
-    // By the node's number, which the topology's rule is about.
-    for i in 0..n {
-        wide[i] = Place { nodes: n, at: i }.row(t);
+    for (i, row) in wide[..n].iter_mut().enumerate() {
+        *row = Place { nodes: n, at: i }.row(t);
     }
     wide
 }
@@ -58,7 +57,7 @@ fn asked(t: Topology, nodes: u64, second: u64, most: u64) -> Result<Graph, Refus
 fn grid(rows: u64, columns: u64) -> Result<Graph, Refusal>
     ensures { result ≡ built_graph 4 rows columns }
 {
-    if !(lies_in(1, MAX_NODES as u64, rows) & lies_in(1, MAX_NODES as u64, columns)) {
+    if !(lies_in(1, MAX_NODES as u64, rows) && lies_in(1, MAX_NODES as u64, columns)) {
         return Err(Refusal::NodeCount);
     }
     asked(Topology::Grid(columns as usize), rows * columns, 0, 0)
@@ -112,6 +111,7 @@ fn copy_rows(wide: &[u64], out: &mut [u32])
     requires { (length wide.now ≤ length out.old) × ((i : ℕ) → i < length wide.now → get_or wide.now i 0 < 2 ^ 32) }
     ensures { out.new ≡ wide.now ++ drop (length wide.now) out.old }
 {
+    // By index: a loop over zipped places tells a proof nothing of what it wrote.
     for (i, &row) in wide.iter().enumerate() {
         out[i] = row as u32;
     }

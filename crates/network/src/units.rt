@@ -2,11 +2,12 @@
 // can be passed where another is meant.
 
 // A node's number, from 0.
-#[derive(Clone, Copy)]
+#[derive(Clone, Copy, PartialEq, Eq, PartialOrd, Ord)]
 pub struct NodeId(pub usize);
 
-// A proposal's number, from 0.
-#[derive(Clone, Copy)]
+// A proposal's number, from 0. Of any number: C's and a text's numbers are made Terms before they are asked, so contracts ask
+// `< max_terms`.
+#[derive(Clone, Copy, PartialEq, Eq, PartialOrd, Ord)]
 pub struct Term(pub u64);
 
 // A slot's number, from 0: the unit of time.

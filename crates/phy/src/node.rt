@@ -24,6 +24,8 @@ pub struct Node {
     pub slots_sleep: u64,
 }
 
+// `new`, `reset_round` and `tick` are of a value, as the definitions have them; the methods do the same to a lent node.
+
 // A node before its first round.
 pub fn new() -> Node
     ensures { result ≡ Spec.new }

@@ -55,6 +55,7 @@ pub struct Radios {
     pub attempts: u64,
     pub successes: u64,
     pub slot: Slot,
+    // The two are apart, as `Stands` and `Sound` ask each by itself; a slot makes a `Schedule` where snapshots are taken.
     pub next_snapshot: Slot,
     pub snapshots: u64,
     pub first_stored: u64,
@@ -91,7 +92,8 @@ fn attempts_at(set: u64, rate: f64, stream: &mut Stream, t: Tried) -> Tried
     tried
 }
 
-// Each flooding node tries its listening neighbours. Only the contract asks n, for how many attempts there may be.
+// Each flooding node tries its listening neighbours. Only the contract asks n, for how many attempts there may be: a ghost
+// value is picked from the call's other arguments, and they do not tell it.
 fn attempts(
     rows: &[u64; MAX_NODES],
     n: usize,
@@ -137,8 +139,8 @@ fn shown(n: usize, progress: u64, awake: Awake) -> Shown
     requires { ones awake.listening + ones awake.flooding ≤ n }
     ensures { result ≡ shown_of n progress awake }
 {
-    let listening = u64::count_ones(awake.listening) as u64;
-    let flooding = u64::count_ones(awake.flooding) as u64;
+    let listening = awake.listening.count_ones() as u64;
+    let flooding = awake.flooding.count_ones() as u64;
     Shown {
         progress,
         listening,
@@ -149,6 +151,7 @@ fn shown(n: usize, progress: u64, awake: Awake) -> Shown
 
 // One slot: snapshots, attempts, and what follows for each node. What it is lent is apart here and in ci.rt: in a
 // struct of lent parts each contract would need a clause more, that they are still those, as `SameTables` of a run.
+// Rows and no `Graph`: the settings have the number of nodes, as `Setup` of the definitions has beside its rows.
 pub fn slot(
     settings: Settings,
     rows: &[u64; MAX_NODES],

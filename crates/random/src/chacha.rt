@@ -112,6 +112,7 @@ fn sums(a: [u32; BLOCK_SIZE], b: [u32; BLOCK_SIZE]) -> [u32; BLOCK_SIZE]
     ensures { result ≡ ChaCha.sums a b }
 {
     let mut t = [0u32; BLOCK_SIZE];
+    // By index: `array::from_fn` was tried, and what it ensures did not tell a proof that each call reads this `a` and this `b`.
     for (i, word) in t.iter_mut().enumerate() {
         *word = a[i].wrapping_add(b[i]);
     }

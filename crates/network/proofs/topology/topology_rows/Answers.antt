@@ -1,22 +1,16 @@
-use Rattle.std.proofs.Common.{◌<◌, ℕ, List, set, refl, sym, ap₂, ◌∙◌, zero-le, arith}
+use Rattle.std.proofs.Common.{◌≡◌, ◌++◌, ◌∙◌, ℕ, List, sym, ap₂, arith}
+use Rattle.std.proofs.lemmas.List.{take_all, drop-replicate}
+use native.Mathlib.Nat.{le_of_eq}
+use Rattle.config.specs.Limits.{max_nodes}
 use Rattle.network.specs.Graph.{widened}
 use Rattle.network.specs.Topology.{topology_row, topology_rows}
-use Rattle.network.proofs.Rows.{widened_more}
-use Rattle.random.proofs.Tables.{length_tabulate, get_d_tabulate}
+use Rattle.random.proofs.Tables.{filled_all, length_tabulate}
 use Rattle.network.proofs.topology.topology_rows.Goals as goal
 
-pub loop-i-init : goal.loop-i-init
-unfolding widened
-loop-i-init c = (zero-le, refl)
-
-pub loop-i-preserved : goal.loop-i-preserved
-unfolding topology_rows
-loop-i-preserved c =
+pub returns : goal.returns
+unfolding widened topology_rows
+returns c =
     let a = c.args in
-    let i = c.loop-i.i in
-    let of = topology_row a.t a.n in
-    let low : i < a.n = omega arith in (
-      omega arith,
-      ap₂ (λ (l : List ℕ) (v : ℕ). set l i v) c.loop-i.invariant.1 (c.row.ensures ∙ sym (get_d_tabulate a.n of i 0 low))
-          ∙ widened_more (topology_rows a.t a.n) i (omega (arith, length_tabulate a.n of)) (omega arith),
-    )
+    let rows = topology_rows a.t a.n in
+    let is : c.loop-i.row-items ≡ rows = filled_all c.loop-i.invariant (omega arith) in
+    ap₂ (λ (x y : List ℕ). x ++ y) (is ∙ sym (take_all a.n rows (le_of_eq (length_tabulate a.n (topology_row a.t a.n))))) (drop-replicate a.n max_nodes 0)

@@ -6,7 +6,7 @@ use borrow.Author.Count.{below_none, below_more}
 use Rattle.network.specs.Graph.{has, set_of, any, linked}
 use Rattle.network.specs.Distance.{spread, reach}
 use Rattle.network.proofs.Sets.{one_shl}
-use Rattle.network.proofs.Spread.{touches, Edge, edge_spread, edge_next}
+use Rattle.network.proofs.Spread.{touches, Latest, latest_spread, latest_next}
 use Rattle.network.proofs.Reach.{reach_lt, growing}
 use Rattle.network.proofs.Distances.{eccentricity_steps, eccentricity_still, eccentricity_full}
 use Rattle.network.proofs.graph.Graph.eccentricity.Goals as goal
@@ -17,14 +17,14 @@ loop-reached-init c =
     let one = one_shl 64 c.args.a.0 (omega arith) in
     (one, below_none _, record { small = rw one (pow-lt c.requires.1.1); holds = λ i j _ _ _ _. refl })
 
--- what a step reaches, and its edge
-step : {rows : List ℕ} {n a reached edge found : ℕ} (k : ℕ) → a < n → reached ≡ reach rows n a k → Edge rows n reached edge
-    → found ≡ set_of n (λ j. any n (λ i. has edge i && linked rows i j))
-    → let next = bit_or reached found in (next ≡ reach rows n a (suc k)) × Edge rows n next (next - reached)
+-- what a step reaches, and what it adds
+step : {rows : List ℕ} {n a reached latest found : ℕ} (k : ℕ) → a < n → reached ≡ reach rows n a k → Latest rows n reached latest
+    → found ≡ set_of n (λ j. any n (λ i. has latest i && linked rows i j))
+    → let next = bit_or reached found in (next ≡ reach rows n a (suc k)) × Latest rows n next (next - reached)
 unfolding reach touches
-step {rows} {n} {a} {reached} k low is edge found =
+step {rows} {n} {a} {reached} k low is latest found =
     let small : reached < 2 ^ n = rw is (reach_lt rows n a low k) in
-    (edge_spread rows n small edge found ∙ ap (spread rows n) is, edge_next rows n small edge found)
+    (latest_spread rows n small latest found ∙ ap (spread rows n) is, latest_next rows n small latest found)
 
 pub returns-then-next-reached : goal.returns-then-next-reached
 returns-then-next-reached c =
@@ -35,8 +35,8 @@ returns-then-next-reached c =
     (eccentricity_steps g.rows g.nodes p.0 c.args.a.0 l.k p.1 l.invariant.1)
     (eccentricity_still g.rows g.nodes p.0 c.args.a.0 l.k p.1 (sym (step l.k c.requires.1.1 c.loop-reached.invariant.0 c.loop-reached.invariant.2 c.linked_to.ensures).0 ∙ c.if-next-reached.true ∙ l.invariant.0))
 
-pub overflow_sub-edge : goal.overflow_sub-edge
-overflow_sub-edge c =
+pub overflow_sub-latest : goal.overflow_sub-latest
+overflow_sub-latest c =
     let r = c.loop-reached.reached in
     omega (arith, or_add_and r c.linked_to.result, and_le_r r c.linked_to.result)
 

@@ -26,7 +26,7 @@ loop-t-preserved c =
       omega (arith, node),
       x.onward,
       or_lt a.self.now.nodes l.found (get_or a.self.now.rows t 0) l.invariant.3 (c.requires.1.0.narrow t node),
-      touches_or a.self.now.rows a.edge l.found l.invariant.4 x.from x.none x.is,
+      touches_or a.self.now.rows a.latest l.found l.invariant.4 x.from x.none x.is,
     )
 
 pub returns : goal.returns
@@ -34,5 +34,5 @@ unfolding touches
 returns c =
     let a = c.args in
     let l = c.loop-t in
-    touches_is a.self.now.rows a.edge a.self.now.nodes l.found l.invariant.3
-    (λ j. l.invariant.4 j ∙ touches_stop a.self.now.rows a.edge j l.invariant.1 (λ i m _. walk_ends l.invariant.2 c.in-None.ensures.steps i m))
+    touches_is a.self.now.rows a.latest a.self.now.nodes l.found l.invariant.3
+    (λ j. l.invariant.4 j ∙ touches_stop a.self.now.rows a.latest j l.invariant.1 (λ i m _. walk_ends l.invariant.2 c.in-None.ensures.steps i m))
