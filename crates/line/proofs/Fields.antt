@@ -1,57 +1,42 @@
 -- The bytes before a stop, and the fields of a line, from a place on. Assumes nothing.
 use Prim.Native.Nat.{ℕ, zero, suc, ◌+◌, ◌≤◌, min}
-use mathlib.Core.Path.{◌≡◌, refl, sym, ap, ◌∙◌}
+use mathlib.Core.Path.{◌≡◌, refl, ap, subst, ◌∙◌}
 use mathlib.Core.Bool.{Bool, true, false, cond}
 use mathlib.Core.List.{List, [], ◌∷◌}
 use native.Mathlib.Omega.{arith}
-use lib.Dec.{eqb, ltb}
-use lib.ListN.{length, get_or, take, drop, drop_of_length-le, length-take}
-use Rattle.std.specs.List.{onto_first, position_or_len, slice_get, slice_split, sum_by}
+use lib.Dec.{eqb}
+use lib.ListN.{length, get_or, take, drop, drop_of_length-le}
+use Rattle.std.specs.List.{onto_first, slice_get, slice_split, sum_by}
+use Rattle.std.specs.Iterator.{AlwaysYields}
 use Rattle.std.specs.Option.{option_map, unwrap_or}
 use Rattle.std.proofs.lemmas.Option.{unwrap_or-slice_get}
 use Rattle.std.specs.Prelude.{Option, Some, None}
+use Rattle.std.proofs.lemmas.Iterator.{YieldsList}
 use Rattle.std.proofs.lemmas.List.{drop_min}
-use Rattle.std.proofs.lemmas.List.Sums.{prefix_len-le-length, sum_by_from}
-use Rattle.std.proofs.lemmas.List.Recursion.{is_position_or_len}
-use borrow.Author.Tests.{ltb-false}
+use Rattle.std.proofs.lemmas.List.Sums.{sum_by_from}
 use Rattle.line.specs.Line.{bytes_before, fields, prefixed}
 
--- the bytes before a stop are the first ones
-pub take_before : (stop : ℕ) (l : List ℕ) → take (length (bytes_before stop l)) l ≡ bytes_before stop l
+-- the first part by std's `split` is what stands before the first stop
+parts_first : (stop : ℕ) (l : List ℕ) → (parts : List (List ℕ)) × (slice_split (λ b. eqb b stop) l ≡ bytes_before stop l ∷ parts)
 unfolding bytes_before
-take_before stop [] = refl
-take_before stop (b ∷ bs) = case (take_before stop bs) (eqb b stop)
+parts_first stop [] = ([], refl)
+parts_first stop (b ∷ bs) = case (parts_first stop bs) (eqb b stop)
   where
-    case : take (length (bytes_before stop bs)) bs ≡ bytes_before stop bs → (t : Bool) → take (length (cond t [] (b ∷ bytes_before stop bs))) (b ∷ bs) ≡ cond t [] (b ∷ bytes_before stop bs)
-    case e true = refl
-    case e false = ap (λ l. b ∷ l) e
+    case : (parts : List (List ℕ)) × (slice_split (λ b. eqb b stop) bs ≡ bytes_before stop bs ∷ parts) → (t : Bool)
+        → (parts : List (List ℕ))
+        × (cond t ([] ∷ slice_split (λ b. eqb b stop) bs) (onto_first b (slice_split (λ b. eqb b stop) bs)) ≡ cond t [] (b ∷ bytes_before stop bs) ∷ parts)
+    case e true = (slice_split (λ b. eqb b stop) bs, refl)
+    case e false = (e.0, ap (onto_first b) e.1)
 
-pub before_short : (stop : ℕ) (l : List ℕ) → length (bytes_before stop l) ≤ length l
-before_short stop l = rw (← take_before stop l) (omega (arith, length-take (length (bytes_before stop l)) l))
-
--- a place that is given up where it is the end
-place_or_end : (k n : ℕ) → k ≤ n → unwrap_or (cond (ltb k n) (Some k) None) n ≡ k
-place_or_end k n h = case (ltb k n) refl
+-- it is what the first call of `next` gives
+pub part_given : {S A : Type 0} (steps : S → Option A → S → Type 0) (now : A → List ℕ) (stop : ℕ) (l : List ℕ) {s u : S} (r : Option A) (d : A)
+    → steps s r u → YieldsList steps now s (slice_split (λ b. eqb b stop) l) → now (unwrap_or r d) ≡ bytes_before stop l
+part_given {S} {A} steps now stop l {s} {u} r d p e =
+    let first = parts_first stop l in case r p (subst (λ parts. YieldsList steps now s parts) first.1 e).runs
   where
-    case : (t : Bool) → ltb k n ≡ t → unwrap_or (cond t (Some k) None) n ≡ k
-    case true e = refl
-    case false e = omega (arith, ltb-false k n e)
-
--- the first stop by the library's word, or the end
-pub before_place :
-    (stop : ℕ) (l : List ℕ) →
-    unwrap_or (cond (ltb (position_or_len (λ b. eqb b stop) l) (length l)) (Some (position_or_len (λ b. eqb b stop) l)) None) (length l)
-    ≡ length (bytes_before stop l)
-unfolding bytes_before
-before_place stop l =
-    place_or_end _ _ (prefix_len-le-length _ l) ∙ sym (is_position_or_len (λ l. length (bytes_before stop l)) (λ b. eqb b stop) refl step l)
-  where
-    step : (b : ℕ) (bs : List ℕ) → length (bytes_before stop (b ∷ bs)) ≡ cond (eqb b stop) 0 (1 + length (bytes_before stop bs))
-    step b bs = case (eqb b stop)
-      where
-        case : (t : Bool) → length (cond t [] (b ∷ bytes_before stop bs)) ≡ cond t 0 (1 + length (bytes_before stop bs))
-        case true = refl
-        case false = omega arith
+    case : (r : Option A) → steps s r u → AlwaysYields steps now s (bytes_before stop l ∷ (parts_first stop l).0) → now (unwrap_or r d) ≡ bytes_before stop l
+    case None p g = absurd (g.0 u p)
+    case (Some x) p g = (g.1 x u p).0
 
 -- the first field is what stands before the first space
 pub fields_first : (l : List ℕ) → (fs : List (List ℕ)) × (fields l ≡ bytes_before 32 l ∷ fs)

@@ -23,20 +23,11 @@ pub struct Line {
     pub limit: u64,
 }
 
-// How many bytes stand before the first `stop`: all of them where there is none.
-fn until(s: &[u8], stop: u8) -> usize
-    ensures { (result ≡ length (bytes_before stop s.now)) × (result ≤ length s.now) }
-{
-    s.iter().position(|&byte| byte == stop).unwrap_or(s.len())
-}
-
 // The bytes before the first `stop`.
-#[tactic(auto, using(crate::proofs::Fields::take_before))]
 fn part_before(s: &[u8], stop: u8) -> &[u8]
     ensures { result.now ≡ bytes_before stop s.now }
 {
-    let end = until(s, stop);
-    &s[..end]
+    s.split(|&byte| byte == stop).next().unwrap_or(&[])
 }
 
 // How many fields a line has.

@@ -7,6 +7,8 @@ ghost use Rattle.text.specs.Text.{number_most, spelled};
 use crate::numeral::MAX_DIGITS;
 
 // Text that is laid over a lent buffer. What lies past its end is dropped, and the place goes on.
+// `Room`, that the place stays below 2^64, is no ghost field: each writer needs room for as many bytes as its text may have,
+// here and in `wire` and `listing`.
 #[derive(Drop)]
 pub struct Overlay<'a> {
     pub out: &'a mut [u8],
@@ -14,6 +16,7 @@ pub struct Overlay<'a> {
 }
 
 // A byte at a place of a buffer, if the buffer reaches so far.
+// By the buffer's length: std's `get_mut` doesn't promise that a buffer without such a place stays as it is.
 fn store(out: &mut [u8], at: usize, byte: u8)
     ensures { out.new ≡ slice_set out.old at byte }
 {
@@ -38,6 +41,7 @@ impl Overlay<'_> {
         ensures { Lays (length word.now) word.now self.old self.new }
     {
         // A place of its own: with the struct's place each byte would wait for the one before.
+        // It is counted on, as an index would need the start added to it for each byte.
         let mut at = self.at;
         for &byte in word {
             store(self.out, at, byte);
@@ -56,11 +60,11 @@ impl Overlay<'_> {
         let mut first = MAX_DIGITS - 1;
         let mut rest = n;
         while 10 <= rest {
-            digits[first] = 48 + (rest % 10) as u8;
+            digits[first] = b'0' + (rest % 10) as u8;
             first -= 1;
             rest /= 10;
         }
-        digits[first] = 48 + rest as u8;
+        digits[first] = b'0' + rest as u8;
         self.put_word(&digits[first..]);
     }
 }

@@ -4,53 +4,43 @@ ghost use Rattle.wire.specs.Grammar.{last_accepted_fits, nack_fits, data_fits, p
 
 use config::limits::{MAX_NODES, MAX_TERMS, MIN_NODES};
 use network::graph::full_set;
+use network::questions::lies_in;
 use network::units::Term;
 use phy::packet::{Packet, Piggyback};
 
 fn last_accepted_fits(last: Option<Term>) -> bool
     ensures { result ≡ last_accepted_fits last }
 {
-    match last {
-        None => true,
-        Some(t) => t.0 < MAX_TERMS as u64,
-    }
+    last.is_none_or(|t| t.0 < MAX_TERMS as u64)
 }
 
 // A NACK of term 0 has no text: 0 stands for none.
 fn nack_fits(nack: Option<Term>) -> bool
     ensures { result ≡ nack_fits nack }
 {
-    match nack {
-        None => true,
-        Some(t) => 1 <= t.0 && t.0 < MAX_TERMS as u64,
-    }
+    nack.is_none_or(|t| 1 <= t.0 && t.0 < MAX_TERMS as u64)
 }
 
 // Whether data is empty or that of the term.
 fn data_fits(term: Term, data: Option<Term>) -> bool
     ensures { result ≡ data_fits term «data» }
 {
-    match data {
-        None => true,
-        Some(t) => t.0 == term.0,
-    }
+    data.is_none_or(|t| t.0 == term.0)
 }
 
 fn piggyback_fits(piggyback: Option<Piggyback>) -> bool
     ensures { result ≡ piggyback_fits piggyback }
 {
-    match piggyback {
-        None => true,
-        Some(again) => again.term.0 < MAX_TERMS as u64 && data_fits(again.term, again.data),
-    }
+    piggyback.is_none_or(|again| {
+        again.term.0 < MAX_TERMS as u64 && data_fits(again.term, again.data)
+    })
 }
 
 // Whether there are 2 to 32 flags, no node behind them is in the set, and the sender is below their number.
 fn flags_fit(packet: Packet, flags: u64) -> bool
     ensures { result ≡ flags_fit flags packet }
 {
-    MIN_NODES <= flags
-        && flags <= MAX_NODES as u64
+    lies_in(MIN_NODES, MAX_NODES as u64, flags)
         && packet.flags_bitmap <= full_set(flags as usize)
         && (packet.sender.0 as u64) < flags
 }

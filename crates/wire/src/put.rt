@@ -77,7 +77,7 @@ fn put_digit(over: &mut Overlay, d: u64)
     ensures { Lays digit_most (digit_text d) over.old over.new }
 {
     over.put(b',');
-    put_small(over, 48 + d);
+    put_small(over, b'0' as u64 + d);
 }
 
 // The digits of a term below 100.

@@ -1,7 +1,8 @@
 -- What the code finds at the front of a text, and what the readers find there. Assumes nothing.
-use Rattle.std.proofs.Common.{◌≡◌, ◌≢◌, ℕ, ◌+◌, ◌*◌, ◌≤◌, ◌<◌, Bool, true, false, cond, ◌&&◌, List, [], ◌∷◌, ◌++◌, Option, Some, None, refl, sym, ap, ◌∙◌, arith}
+use Rattle.std.proofs.Common.{◌≡◌, ◌≢◌, ℕ, ◌+◌, ◌*◌, ◌≤◌, Bool, true, false, cond, ◌&&◌, List, [], ◌∷◌, ◌++◌, Option, Some, None, refl, sym, ap, ◌∙◌, arith}
 use Rattle.std.specs.Prelude.{MatchOption, option_copied, ltb, eqb}
 use Rattle.std.specs.Borrow.{Bor}
+use Rattle.std.specs.Bool.{then_some}
 use borrow.Author.Tests.{lt-ltb, le-ltb}
 use Rattle.text.specs.Numeral.{digit, some_digit}
 use Rattle.text.proofs.Numerals.{digit_is, digit_none}
@@ -9,6 +10,7 @@ use Rattle.text.specs.Text.{ascii}
 use Rattle.phy.specs.declared.packet.Piggyback.{Piggyback}
 use Rattle.wire.specs.Grammar.{array, data_text}
 use Rattle.wire_reader.specs.Reader.{Reader, behind, behind_word, beyond, otherwise, ◌>>=◌, ◌>>◌, ◌or_else◌, give, decimal_digit, number, second_digit, below, term, data_of, piggyback}
+use Rattle.wire_reader.specs.View.{seen}
 use Rattle.wire_reader.proofs.Words.{behind_only, behind_word_lem}
 
 -- a word, as `strip_prefix` finds it
@@ -21,16 +23,17 @@ stripped word text None h = sym (case (behind word text) refl)
     case None e = e
     case (Some u) e = absurd (h u (behind_only word text u e))
 
+-- a value that is given by a test
+pub seen_found : {A : Type 0} (t : Bool) (a : A) (rest : Bor (List ℕ)) → seen (then_some t (a, rest)) ≡ cond t (Some (a, rest.now)) None
+seen_found true a rest = refl
+seen_found false a rest = refl
+
 -- ---- a digit of base 10
 
 module _ (t u : List ℕ) (b : ℕ) (front : t ≡ b ∷ u) where
-  pub digit_low : {d : ℕ} → Some d ≡ some_digit b → d < 10 → Some (d, u) ≡ decimal_digit t
+  pub digit_shown : {d : ℕ} → Some d ≡ some_digit b → cond (ltb d 10) (Some (d, u)) None ≡ decimal_digit t
   unfolding decimal_digit
-  digit_low {d} e h = rw (front, digit_is b e, lt-ltb d 10 h)
-
-  pub digit_high : {d : ℕ} → Some d ≡ some_digit b → 10 ≤ d → None ≡ decimal_digit t
-  unfolding decimal_digit
-  digit_high {d} e h = rw (front, digit_is b e, le-ltb d 10 h)
+  digit_shown e = rw (front, digit_is b e)
 
   pub digit_other : None ≡ some_digit b → None ≡ decimal_digit t
   unfolding decimal_digit

@@ -1,6 +1,6 @@
-use Rattle.std.proofs.Common.{rules}
+use Rattle.std.proofs.Common.{rules, ◌∙◌}
 use Rattle.wire_reader.specs.Reader.{decimal_digit}
-use Rattle.wire_reader.proofs.Fronts.{digit_low, digit_high, digit_other}
+use Rattle.wire_reader.proofs.Fronts.{digit_shown, digit_other, seen_found}
 use Rattle.wire_reader.proofs.fields.decimal_digit.Goals as goal
 
 pub returns-in_err-byte-clause-reads : goal.returns-in_err-byte-clause-reads
@@ -10,8 +10,6 @@ returns-in_err-byte-clause-reads c = search rules
 pub returns-in_err-d-clause-reads : goal.returns-in_err-d-clause-reads
 returns-in_err-d-clause-reads c = rw c.from_residual-in_err-d.ensures (digit_other _ _ _ c.in_ok-byte.ensures.cases.0 c.in_err-d.ensures)
 
-pub returns-then-d-lt10-clause-reads : goal.returns-then-d-lt10-clause-reads
-returns-then-d-lt10-clause-reads c = digit_low _ _ _ c.in_ok-byte.ensures.cases.0 c.in_ok-d.ensures c.if-d-lt10.true
-
-pub returns-else-d-lt10-clause-reads : goal.returns-else-d-lt10-clause-reads
-returns-else-d-lt10-clause-reads c = digit_high _ _ _ c.in_ok-byte.ensures.cases.0 c.in_ok-d.ensures c.if-d-lt10.false
+pub returns-clause-reads : goal.returns-clause-reads
+returns-clause-reads c =
+    rw c.then_some.ensures (seen_found _ _ _ ∙ digit_shown _ _ _ c.in_ok-byte.ensures.cases.0 c.in_ok-d.ensures)
