@@ -38,7 +38,9 @@ fn with_table<const N: usize, R, F: FnMut(&mut [PaxosState]) -> R>(f: &mut F) ->
     f(&mut states)
 }
 
-// The same with a table for so many nodes. f stays the caller's, who so knows what the call left in what f borrows.
+// The same with a table for so many nodes. f is borrowed, and not given away: so the contract can say what it is after the call,
+// and with that what it did with what it borrows. That its table is blank each f asks in turn: a type of blank tables would hold
+// it only until f's first write.
 pub fn with_states<R, F: FnMut(&mut [PaxosState]) -> R>(nodes: usize, f: &mut F) -> R
     requires { (states : _) → states.now ≡ replicate (table_size nodes) no_terms → F.pre f.old states }
     ensures { (left : List PaxosState) × CalledAtMut F.FnMut f.old (replicate (table_size nodes) no_terms) result f.new left }

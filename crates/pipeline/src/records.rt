@@ -7,13 +7,15 @@ ghost use Rattle.phy.specs.Slot.{among};
 ghost use Rattle.pipeline.specs.View.{record_of, Recording, Records};
 ghost use Rattle.pipeline.specs.Round.{record_triple};
 
-use config::limits::MAX_TERMS;
+use config::limits::{MAX_TERMS, RECORD_SIZE};
 use network::graph::has;
 use network::members::members_of;
 use network::units::{Slot, Term};
 
-// How many records there are, and the set of the terms that are recorded. They are carried from round to round and no fields of
-// the history: a new run carries none over a history that a run before it has filled, and asks only for its starts to be cleared.
+// How many records there are, and the set of the terms that are recorded. The count is kept beside the set: each new record needs
+// it, and counting takes longer. `Recording` relates both to a history, so neither can hold it. They are carried from round to
+// round and no fields of the history: a new run carries none over a history that a run before it has filled, and asks only for its
+// starts to be cleared.
 #[derive(Clone, Copy)]
 pub struct Recorded {
     pub count: u64,
@@ -36,7 +38,7 @@ pub struct History {
     pub records: [ProposalRecord; MAX_TERMS],
 }
 
-// Writes a record's numbers, id, start and end, from the place `at` on.
+// Writes a record's numbers, id, start and end, from the place `at` on, as the definition lays them (`sets out at`).
 pub fn put_record(out: &mut [u64], at: usize, record: ProposalRecord)
     requires { at + record_size ≤ length out.old }
     ensures { out.new ≡ sets out.old at (record_triple (record_of «record»)) }
@@ -44,9 +46,7 @@ pub fn put_record(out: &mut [u64], at: usize, record: ProposalRecord)
     let id = record.id;
     let start = record.start;
     let end = record.end;
-    out[at] = id.0;
-    out[at + 1] = start.0;
-    out[at + 2] = end.0;
+    out[at..at + RECORD_SIZE].copy_from_slice(&[id.0, start.0, end.0]);
 }
 
 impl History {

@@ -11,7 +11,6 @@ ghost use Rattle.rounds.specs.Going.{planned};
 ghost use Rattle.preview.specs.Preview.{preview_in, preview_for};
 
 use config::Config;
-use config::limits::ENOUGH_ROUNDS;
 use config::refusal::Refusal;
 use pipeline::carry::with_states;
 use pipeline::records::History;
@@ -38,7 +37,7 @@ fn preview_graph(plan: &Plan, k: u64) -> Result<SeenRound, Refusal>
     requires { Accepted (planned plan.now) }
     ensures { result ≡ preview_in (planned plan.now) k }
 {
-    if plan.config.num_proposals + ENOUGH_ROUNDS <= k {
+    if plan.most_rounds() <= k {
         return Err(Refusal::NoSuchRound);
     }
     let mut look = |states: &mut [PaxosState]| preview_over(plan, k, states);

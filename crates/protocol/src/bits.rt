@@ -8,7 +8,7 @@ use config::limits::MAX_TERMS;
 use network::graph::full_set;
 use network::units::Term;
 
-// The union of two sets.
+// The union of two sets: `|`, under the name of the definition's `union`, which speaks of members.
 #[tactic(auto, using(crate::proofs::Sets::union_or))]
 pub fn union_of(a: u64, b: u64) -> u64
     ensures { result ≡ union a b }

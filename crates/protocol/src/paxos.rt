@@ -19,7 +19,7 @@ use phy::packet::Piggyback;
 fn is_majority(votes: u64, n: usize) -> bool
     ensures { result ≡ leb (majority n) (size votes) }
 {
-    let k = u64::count_ones(votes) as usize;
+    let k = votes.count_ones() as usize;
     n / 2 + 1 <= k
 }
 
@@ -60,10 +60,7 @@ impl PaxosState {
         requires { Kept max_terms self.now }
         ensures { result ≡ after_last self.now.last_accepted }
     {
-        match self.last_accepted {
-            None => 0,
-            Some(u) => u.0 + 1,
-        }
+        self.last_accepted.map_or(0, |u| u.0 + 1)
     }
 
     // Merges votes into all pending terms up to the given one. Votes of a term that is not pending count
@@ -77,8 +74,8 @@ impl PaxosState {
         if rest == 0 {
             return;
         }
-        let first = u64::trailing_zeros(rest) as usize;
-        let end = MAX_TERMS - u64::leading_zeros(rest) as usize;
+        let first = rest.trailing_zeros() as usize;
+        let end = MAX_TERMS - rest.leading_zeros() as usize;
         for votes in &mut self.votes[first..end] {
             *votes = union_of(*votes, bitmap);
         }
@@ -108,11 +105,12 @@ impl PaxosState {
             return None;
         }
         let own = 1u64 << node.0;
-        let first = u64::trailing_zeros(pending) as usize;
-        let end = MAX_TERMS - u64::leading_zeros(pending) as usize;
+        let first = pending.trailing_zeros() as usize;
+        let end = MAX_TERMS - pending.leading_zeros() as usize;
         if !self.others_voted(own, first, end) {
             return None;
         }
+        // By the term's number, which the pending set is asked for.
         for t in (first..end).rev() {
             if is_quorum(self.votes[t], own, pending, t, n) {
                 return Some(Term(t as u64));
@@ -130,7 +128,7 @@ impl PaxosState {
         let t = term.0;
         self.last_accepted = raised(self.last_accepted, term);
         if has(self.pending, t as usize) {
-            let end = u64::count_ones(self.logged) as usize;
+            let end = self.logged.count_ones() as usize;
             self.log[end] = term;
             self.pending -= 1u64 << t;
             self.logged |= 1u64 << t;
@@ -172,7 +170,7 @@ impl PaxosState {
             return None;
         }
         let free = !self.held_set() >> last;
-        let t = last + u64::trailing_zeros(free) as u64;
+        let t = last + free.trailing_zeros() as u64;
         if end <= t {
             return None;
         }
@@ -218,9 +216,7 @@ impl PaxosState {
         requires { Kept max_terms self.now }
         ensures { result ≡ recovery nack (view self.now) }
     {
-        let Some(term) = nack else {
-            return None;
-        };
+        let term = nack?;
         let t = term.0 as usize;
         if MAX_TERMS <= t {
             return None;

@@ -9,8 +9,8 @@ use network::units::Term;
 
 // By term the votes, a set of nodes, and the term whose data it carries; the logged terms in commit order; the
 // set of the pending terms, that of the logged ones, and the last accepted term.
-// `Kept`, which the contracts here and in the turns ask, is no invariant of the type: it speaks of a counter that no state holds,
-// and `logged_term`, `logged_count` and the definitions take any state.
+// `Kept`, asked in `paxos`, `turns` and `sim`, is no ghost field: `logged_term`, `logged_count` and the definitions take any state,
+// and would then ask for it.
 #[derive(Clone, Copy)]
 pub struct PaxosState {
     // Apart from the data, as the votes alone are gone through in vector steps (`merge_votes_up_to`, `others_voted`).
@@ -46,6 +46,6 @@ impl PaxosState {
     pub fn logged_count(&self) -> u64
         ensures { result ≡ ones self.now.logged }
     {
-        u64::count_ones(self.logged) as u64
+        self.logged.count_ones() as u64
     }
 }

@@ -80,8 +80,8 @@ impl PaxosState {
     }
 
     // The initiator's turn: `counter` is the number of proposals made before it, `proposes` says whether
-    // one is left to be made, and `piggyback` is what the round before it has set. The counter is asked for beside the
-    // proposal: gaps are looked for below it, and where nothing is proposed the term before it is current.
+    // one is left to be made, and `piggyback` is what the round before it has set. `proposes` and no `Option<Term>`: the term
+    // could only be the counter's, which the contract would have to ask.
     pub fn initiator_turn(
         &mut self,
         node: NodeId,
@@ -105,9 +105,8 @@ impl PaxosState {
         requires { Kept max_terms self.old × proposal_below max_terms term.0 d }
         ensures { Step (λ c. proposal_below c term.0 d) (take_data term.0 votes d) self.old self.new }
     {
-        match d {
-            None => {}
-            Some(u) => self.hold_new(term, votes, Some(u)),
+        if let Some(u) = d {
+            self.hold_new(term, votes, Some(u));
         }
     }
 
@@ -116,9 +115,8 @@ impl PaxosState {
         requires { Kept max_terms self.old × back_below max_terms piggyback }
         ensures { Step (λ c. back_below c piggyback) (take_piggyback votes piggyback) self.old self.new }
     {
-        match piggyback {
-            None => {}
-            Some(again) => self.hold_new(again.term, votes, again.data),
+        if let Some(again) = piggyback {
+            self.hold_new(again.term, votes, again.data);
         }
     }
 

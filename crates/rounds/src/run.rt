@@ -1,6 +1,6 @@
 // The rounds of a run, up to its end.
 ghost use Rattle.std.specs.Prelude.{◌≡◌, cond, ◌&&◌, eqb, ltb, ◌+◌, ◌*◌, ◌≤◌, replicate};
-ghost use Rattle.config.specs.Limits.{max_nodes, max_terms, max_repeats, rounds_per_link, extra_rounds};
+ghost use Rattle.config.specs.Limits.{max_nodes, max_terms, max_repeats, rounds_per_link, extra_rounds, most_rounds};
 ghost use Rattle.random.specs.Draws.{DrawNext};
 ghost use Rattle.phy.specs.Limits.{queue_size};
 ghost use Rattle.phy.specs.View.{tables, CanFlood, Rounded};
@@ -10,20 +10,22 @@ ghost use Rattle.rounds.specs.Going.{planned, settings_of, longest_of, contents,
 
 use super::survey::{Surveyed, survey};
 use config::Config;
-use config::limits::{EXTRA_ROUNDS, MAX_NODES, ROUNDS_PER_LINK};
+use config::limits::{ENOUGH_ROUNDS, EXTRA_ROUNDS, MAX_NODES, ROUNDS_PER_LINK};
 use network::graph::full_set;
 use network::units::{NodeId, Slot};
 use phy::ci::{Round, flood_identical_round, length_limit};
 use phy::slot::{Awake, QUEUE_SIZE, Radios, Settings};
 use pipeline::carry::Carry;
 use pipeline::records::{History, Recorded};
-use pipeline::round::{prepare_round, process_round};
+use pipeline::round::{PreparedRound, prepare_round, process_round};
 use protocol::state::PaxosState;
 use random::draws::{Stream, begin_draws};
 use rules::answer::{End, SeenRound};
 use rules::networks::Network;
 
-// What a run is given: its network and its configuration.
+// What a run is given: its network and its configuration. No ghost field holds that its questions passed (`Accepted`, asked in
+// `flood`, `sim`, `preview`, `sweep`, `archive_writer` and `archive_check`): the laws speak of plans of any network and
+// configuration.
 #[derive(Clone, Copy)]
 pub struct Plan {
     pub network: Network,
@@ -65,8 +67,8 @@ pub struct Next {
     pub ended: Option<End>,
 }
 
-// A run that has stopped: after how many rounds, the last that it might have, and its end; none where the rounds were
-// used up.
+// A run that has stopped: after how many rounds, and the round with which the allowed ones were used up, if it came to that; and
+// its end, none where no end came before they were used up.
 #[derive(Clone, Copy)]
 pub struct Stopped {
     pub run: Run,
@@ -149,7 +151,8 @@ fn end_after(proposals: u64, diameter: u64, complete: bool, records: u64, k: u64
     }
 }
 
-// The flood of a round from this initiator, as the run stands.
+// The flood of a round from this initiator, as the run stands. Of what a flood writes to alone, and no method of the workspace: its
+// contract would have to say that states and history stay.
 fn flood(
     plan: &Plan,
     x: Run,
@@ -163,22 +166,36 @@ fn flood(
     ensures { Rounded (settings_of plan.now x.progress) plan.now.network.graph.rows (longest_of plan.now) initiator.0 x.flood
         (tables queue.old stream.old snapshots.old) result (tables queue.new stream.new snapshots.new) }
 {
-    let network = &plan.network;
-    let config = plan.config;
     flood_identical_round(
         settings_of(plan, x.progress),
-        &network.graph.rows,
-        length_limit(
-            config.round_slots,
-            network.diameter as u64,
-            config.flood_repeats,
-        ),
+        &plan.network.graph.rows,
+        plan.longest(),
         initiator,
         x.flood,
         queue,
         stream,
         snapshots,
     )
+}
+
+impl Plan {
+    // The most rounds of a run.
+    pub fn most_rounds(&self) -> u64
+        requires { self.now.config.num_proposals ≤ max_terms }
+        ensures { result ≡ most_rounds self.now.config.num_proposals }
+    {
+        self.config.num_proposals + ENOUGH_ROUNDS
+    }
+
+    // The length limit of a round's flood.
+    pub fn longest(&self) -> u64
+        requires { (self.now.network.diameter ≤ max_nodes) × (self.now.config.flood_repeats ≤ max_repeats) }
+        ensures { result ≡ longest_of self.now }
+    {
+        let config = self.config;
+        let diameter = self.network.diameter as u64;
+        length_limit(config.round_slots, diameter, config.flood_repeats)
+    }
 }
 
 impl<'a> Workspace<'a> {
@@ -211,7 +228,7 @@ impl<'a> Workspace<'a> {
     {
         let n = plan.network.graph.nodes;
         let initiator = NodeId((k % (n as u64)) as usize);
-        let prepared = prepare_round(
+        let PreparedRound { carry, packet } = prepare_round(
             x.carry,
             self.states,
             self.history,
@@ -220,7 +237,6 @@ impl<'a> Workspace<'a> {
             initiator,
             x.flood.slot,
         );
-        let packet = prepared.packet;
         let Round { flood, part } = flood(
             plan,
             x,
@@ -230,7 +246,7 @@ impl<'a> Workspace<'a> {
             self.snapshots,
         );
         let carry = process_round(
-            prepared.carry,
+            carry,
             self.states,
             self.history,
             n,

@@ -25,7 +25,7 @@ fn logs_all(logged: u64, proposals: usize) -> bool
 
 // Looks at the logs of the first n nodes. A log with the terms of the first is no shorter, so only the others are counted;
 // all logs hold every proposal when their intersection does. n stands beside the table, as in the definitions (`AllKept`,
-// `states_of`), which a slice to n would need a second time.
+// `states_of`): a slice to n would be a second list to say them of.
 pub fn survey(states: &[PaxosState], n: usize, proposals: usize) -> Surveyed
     requires { CanSurvey n proposals states.now }
     ensures { Surveys n proposals states.now result }

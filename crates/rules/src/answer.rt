@@ -25,8 +25,5 @@ pub enum End {
 pub fn end_number(end: Option<End>) -> u64
     ensures { result ≡ end_number end }
 {
-    match end {
-        Some(end) => end as u64,
-        None => 0,
-    }
+    end.map_or(0, |end| end as u64)
 }

@@ -7,7 +7,8 @@ use network::graph::Graph;
 use network::topology::{build_graph, checked_graph};
 
 // Rows for so many nodes, or the topology of a number with its two numbers: the number of nodes, for a grid of rows, and a grid's
-// columns or a tree's branching factor.
+// columns or a tree's branching factor. Apart from the configuration, as in the definitions (`outcome_for q config`): the questions
+// of each stand alone.
 #[derive(Clone, Copy)]
 pub enum Asked<'a> {
     Rows(&'a [u32], u64),

@@ -1,11 +1,11 @@
 -- What the buffers hold: the terms of a log, the logs, and the numbers of the records. Assumes nothing.
 use Prim.Native.Nat.{ℕ, zero, suc, ◌+◌, ◌*◌, ◌<◌}
 use mathlib.Core.Path.{◌≡◌, refl, sym, ap, ◌∙◌}
-use mathlib.Core.List.{List, [], ◌∷◌}
+use mathlib.Core.List.{List, [], ◌∷◌, ◌++◌, append-nil}
 use native.Mathlib.Numerals.{add-one}
 use native.Mathlib.Omega.{arith}
-use lib.ListN.{length, set}
-use lib.Seq.{sets, length-sets}
+use lib.ListN.{length, set, drop, drop_of_length-le}
+use lib.Seq.{sets, sets-eq, length-sets}
 use Rattle.config.specs.Limits.{record_size}
 use Rattle.random.specs.Table.{tabulate}
 use Rattle.random.proofs.Tables.{length_tabulate, tabulate_snoc, get_d_tabulate}
@@ -20,11 +20,18 @@ use Rattle.pipeline.specs.View.{state_in, record_at, records_of, states_of}
 use Rattle.rules.proofs.ExactBuffers.{length_numbers, record_numbers_append}
 
 -- ---- the terms of a log, one after the other
-pub terms_more : (f : ℕ → ℕ) (out : List ℕ) (at k : ℕ) → set (sets out at (tabulate k f)) (at + k) (f k) ≡ sets out at (tabulate (k + 1) f)
-terms_more f out at k =
-    ap (λ (i : ℕ). set (sets out at (tabulate k f)) (at + i) (f k)) (sym (length_tabulate k f))
-    ∙ sym (sets_append out at (tabulate k f) (f k ∷ []))
-    ∙ ap (sets out at) (sym (tabulate_snoc k f))
+-- a list written over another of its length
+pub sets_all : (l ys : List ℕ) → length ys ≡ length l → sets l 0 ys ≡ ys
+sets_all l ys e =
+    let none : drop (0 + length ys) l ≡ [] = drop_of_length-le l {i = 0 + length ys} (omega arith) in
+    sets-eq ys l 0 (omega arith) ∙ ap (λ (rest : List ℕ). ys ++ rest) none ∙ append-nil ys
+
+pub terms_more : (f : ℕ → ℕ) (out : List ℕ) (k : ℕ) → set (sets out 0 (tabulate k f)) k (f k) ≡ sets out 0 (tabulate (k + 1) f)
+terms_more f out k =
+    let place : k ≡ 0 + length (tabulate k f) = omega (arith, length_tabulate k f) in
+    ap (λ (i : ℕ). set (sets out 0 (tabulate k f)) i (f k)) place
+    ∙ sym (sets_append out 0 (tabulate k f) (f k ∷ []))
+    ∙ ap (sets out 0) (sym (tabulate_snoc k f))
 
 -- ---- the logs, one node after the other
 pub logs_more : (old : List ℕ) (n i : ℕ) (x : List PaxosState) → i < n →

@@ -18,9 +18,8 @@ fn copy_terms(state: &PaxosState, count: usize, out: &mut [u8], at: usize)
     requires { Kept max_terms state.now × (count ≤ ones state.now.logged) × (at + count ≤ length out.old) }
     ensures { out.new ≡ sets out.old at (tabulate count (term_at state.now)) }
 {
-    // By the term's place in the log: what stands behind its end is nobody's, so the state lends no slice of it.
-    for k in 0..count {
-        out[at + k] = state.logged_term(k).0 as u8;
+    for (k, place) in out[at..at + count].iter_mut().enumerate() {
+        *place = state.logged_term(k).0 as u8;
     }
 }
 
@@ -37,7 +36,7 @@ fn write_log(state: &PaxosState, node: NodeId, logs: &mut [u8])
 }
 
 // The logs of the first n nodes, where the table has room for more. n stands beside it, as in the definitions (`AllKept`,
-// `states_of`), which a slice to n would need a second time.
+// `states_of`): a slice to n would be a second list to say them of.
 pub fn write_logs(states: &[PaxosState], n: usize, logs: &mut [u8])
     requires { AllKept max_terms n states.now × (n ≤ max_nodes) × (log_size ≤ length logs.old) }
     ensures { logs.new ≡ logs_with logs.old (states_of n states.now) n }
@@ -47,7 +46,8 @@ pub fn write_logs(states: &[PaxosState], n: usize, logs: &mut [u8])
     }
 }
 
-// The records, three numbers each.
+// The records, three numbers each. The buffer is written from a record's place on, as the definition lays it (`sets`): from a
+// chunk's promise that of the whole buffer would have to be put together again.
 pub fn write_records(history: &History, count: u64, out: &mut [u64])
     requires { (count ≤ max_terms) × (record_size * count ≤ length out.old) }
     ensures { out.new ≡ sets out.old 0 (record_numbers (records_of count history.now)) }

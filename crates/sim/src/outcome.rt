@@ -9,7 +9,6 @@ ghost use Rattle.rounds.specs.Going.{planned};
 ghost use Rattle.sim.specs.Filling.{CanFill, Fills, summary_from};
 
 use super::buffers::{write_logs, write_records};
-use config::limits::ENOUGH_ROUNDS;
 use metrics::summary::Summary;
 use pipeline::carry::with_states;
 use pipeline::records::History;
@@ -59,7 +58,7 @@ pub fn run_over(
     ensures { Fills plan.now logs.old records.old snapshots.old result
         states.new logs.new records.new snapshots.new }
 {
-    let most = plan.config.num_proposals + ENOUGH_ROUNDS;
+    let most = plan.most_rounds();
     let mut history = History::EMPTY;
     let n = plan.network.graph.nodes;
     let stopped = play(plan, most, states, &mut history, snapshots);

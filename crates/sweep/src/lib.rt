@@ -17,7 +17,7 @@ ghost use Rattle.sweep.specs.Working.{plan_with, RunsSeed, CanSweep, Sweeps};
 
 use clear::{clear_starts, clear_states};
 use config::Config;
-use config::limits::{ENOUGH_ROUNDS, MAX_NODES};
+use config::limits::MAX_NODES;
 use config::refusal::Refusal;
 use metrics::summary::Summary;
 use pipeline::carry::with_states;
@@ -65,7 +65,8 @@ fn plan_with(plan: &Plan, seed: u64) -> Plan
     }
 }
 
-// Writes a run's line from the place `at` on, in the order of `swept_line`.
+// Writes a run's line from the place `at` on, in the order of `swept_line`. From a place on, as the definition lays it (`sets`):
+// from a chunk's promise that of the whole table would have to be put together again.
 fn put_swept_line(table: &mut [u64], at: usize, summary: Summary)
     requires { at + swept_size ≤ length table.old }
     ensures { table.new ≡ sets table.old at (swept_line summary) }
@@ -86,7 +87,7 @@ fn run_seed(plan: &Plan, seed: u64, states: &mut [PaxosState], history: &mut His
     requires { Accepted (planned plan.now) × Blank plan.now.network.graph.nodes states.old history.old }
     ensures { RunsSeed plan.now seed result states.new history.new }
 {
-    let most = plan.config.num_proposals + ENOUGH_ROUNDS;
+    let most = plan.most_rounds();
     let mut snapshots = [0u64; 0];
     let seeded = plan_with(plan, seed);
     let stopped = play(&seeded, most, states, history, &mut snapshots);

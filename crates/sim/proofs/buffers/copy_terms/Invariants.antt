@@ -6,4 +6,4 @@ use Rattle.sim.proofs.buffers.copy_terms.Given as goal
 
 -- the first k terms are copied
 abbrev pub invariant-loop-k : goal.invariant-loop-k
-invariant-loop-k l = l.out ≡ sets l.initial.out l.at (tabulate l.k (term_at l.state))
+invariant-loop-k l = l.place-items ≡ sets l.initial.place-items 0 (tabulate l.k (term_at l.state))

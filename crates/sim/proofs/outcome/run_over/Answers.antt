@@ -27,9 +27,10 @@ summary_of-requires c =
 
 pub returns : goal.returns
 returns c =
-    let goes = c.play-stopped.ensures.goes in
+    let stops = rw c.most_rounds-most.ensures at c.play-stopped.ensures in
+    let goes = stops.goes in
     record {
-      buffers = finishes c.play-stopped.ensures c.args.logs.now c.args.records.now c.summary_of.ensures c.write_logs.ensures c.write_records.ensures;
+      buffers = finishes stops c.args.logs.now c.args.records.now c.summary_of.ensures c.write_logs.ensures c.write_records.ensures;
       kept = kept_all goes.steady;
       states = states_are goes.shows;
     }

@@ -2,7 +2,7 @@
 -- Assumes nothing.
 use Rattle.std.specs.Prelude.{Option, Some, None}
 use mathlib.Core.Bool.{Bool, cond}
-use mathlib.Core.Path.{◌≡◌, refl, sym, ap, ◌∙◌}
+use mathlib.Core.Path.{◌≡◌, sym, ap, ◌∙◌}
 use Rattle.network.specs.declared.units.Term.{Term}
 use Rattle.protocol.specs.declared.state.PaxosState.{PaxosState}
 use Rattle.protocol.specs.Paxos.{held, recovery}
@@ -19,18 +19,18 @@ answer s nack term is e =
     recovery_view s term ∙
     ap (λ (x : Bool). cond x (Some (record { term = term; «data» = (data_at s term.0) })) None) e
 
-pub returns-in_default : goal.returns-in_default
+pub returns-in_err-term : goal.returns-in_err-term
 unfolding recovery
-returns-in_default c = rw c.in_default.is refl
+returns-in_err-term c = c.from_residual.ensures ∙ sym (ap (λ n. recovery n (view c.args.self.now)) c.in_err-term.was)
 
 pub returns-then-t-ge-MAX_TERMS : goal.returns-then-t-ge-MAX_TERMS
 returns-then-t-ge-MAX_TERMS c =
-    sym (answer c.args.self.now c.args.nack c.in-Some.term c.in-Some.is (held_free c.requires c.in-Some.term.0 c.if-t-ge-MAX_TERMS.true))
+    sym (answer c.args.self.now c.args.nack c.in_ok-term.term c.in_ok-term.was (held_free c.requires c.in_ok-term.term.0 c.if-t-ge-MAX_TERMS.true))
 
 pub returns-then-not-is_held : goal.returns-then-not-is_held
 returns-then-not-is_held c =
-    sym (answer c.args.self.now c.args.nack c.in-Some.term c.in-Some.is (sym c.is_held.ensures ∙ c.if-not-is_held.true))
+    sym (answer c.args.self.now c.args.nack c.in_ok-term.term c.in_ok-term.was (sym c.is_held.ensures ∙ c.if-not-is_held.true))
 
 pub returns : goal.returns
 returns c =
-    sym (answer c.args.self.now c.args.nack c.in-Some.term c.in-Some.is (sym c.is_held.ensures ∙ c.if-not-is_held.false))
+    sym (answer c.args.self.now c.args.nack c.in_ok-term.term c.in_ok-term.was (sym c.is_held.ensures ∙ c.if-not-is_held.false))

@@ -5,9 +5,9 @@ use Rattle.protocol.specs.Turns.{take_data}
 use Rattle.protocol.proofs.Steps.{next_same, next_if}
 use Rattle.protocol.proofs.state.PaxosState.take_data.Goals as goal
 
-pub returns-in-None : goal.returns-in-None
+pub returns-in_default : goal.returns-in_default
 unfolding take_data
-returns-in-None c = rw c.in-None.is (next_same refl)
+returns-in_default c = rw c.in_default.is (next_same refl)
 
 pub returns-in-Some : goal.returns-in-Some
 unfolding take_data
