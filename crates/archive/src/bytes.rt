@@ -9,7 +9,8 @@ pub const NUMBER_SIZE: usize = 8;
 // How many values a byte has.
 const BYTE_VALUES: u64 = 256;
 
-// The number that bytes stand for.
+// The number that bytes stand for. Of up to 8 bytes, here and in `put_bytes`, as the directory's numbers have 4:
+// `from_le_bytes` and `to_le_bytes` are of one size.
 pub fn number_of(bytes: &[u8]) -> u64
     requires { length bytes.now ≤ number_size }
     ensures { result ≡ number_of bytes.now }
@@ -30,8 +31,8 @@ pub fn nth_number(bytes: &[u8], i: usize) -> u64
     number_of(&bytes[at..at + NUMBER_SIZE])
 }
 
-// Writes a number into so many bytes from the place `at` on. A slice in place of buffer and place is no plainer here and in
-// `put_numbers`: a file is laid part by part, and its definition says from which place of the whole each part stands.
+// Writes a number into so many bytes from the place `at` on. By buffer and place, here and in `put_numbers`: from a slice's
+// promise each caller would have to put together that of the whole file.
 pub fn put_bytes(number: u64, size: usize, out: &mut [u8], at: usize)
     requires { at + size ≤ length out.old }
     ensures { out.new ≡ sets out.old at (bytes_of size number) }
@@ -60,6 +61,7 @@ pub fn are_numbers(bytes: &[u8], numbers: &[u64]) -> bool
     if bytes.len() != NUMBER_SIZE * numbers.len() {
         return false;
     }
+    // By index, as the definition says where number i stands.
     for (i, &number) in numbers.iter().enumerate() {
         if nth_number(bytes, i) != number {
             return false;

@@ -21,7 +21,7 @@ pub struct Inputs {
 // The number of absent round slots.
 const ABSENT_SLOTS: u64 = u64::MAX;
 
-// No From, here and below: neither type is ours.
+// No From for the next two, whose types are std's, nor for the last two, which ask something of what they take.
 fn slots_number(slots: Option<u64>) -> u64
     ensures { result ≡ slots_number slots }
 {

@@ -43,7 +43,7 @@ pub enum Section {
 
 impl Section {
     // All of them, each at its number.
-    pub const ALL: [Section; SECTION_COUNT] = [
+    const ALL: [Section; SECTION_COUNT] = [
         Section::Inputs,
         Section::Totals,
         Section::Records,
@@ -59,7 +59,7 @@ impl Section {
     }
 
     // The section with a number, if one has it.
-    pub fn at(i: usize) -> Option<Section>
+    fn at(i: usize) -> Option<Section>
         ensures { MatchOption result (section_count ≤ i) (λ s. section_number s ≡ i) }
     {
         Section::ALL.get(i).copied()
@@ -177,7 +177,8 @@ pub fn layout_of(file: &[u8]) -> Result<(), Refusal>
     Ok(())
 }
 
-// The part of the file that section i is. Nothing behind the last section, nor of a file that breaks the layout.
+// The part of the file that section i is. Nothing behind the last section, nor of a file that breaks the layout. By its number,
+// as a reader goes on behind the last; a `Section` would ask more of callers.
 pub fn section_of(file: &[u8], i: usize) -> &[u8]
     ensures { result.now ≡ handed_out file.now i }
 {
@@ -196,6 +197,7 @@ pub fn put_parts(file: &[u8], parts: &mut [u64]) -> Result<(), Refusal>
     ensures { ◌≡◌ {A = Answer × List ℕ} (result, parts.new) (parts_told file.now parts.old) }
 {
     let filed = Filed::of(file)?;
+    // By index, as section i has the places 2i and 2i + 1.
     for (i, &section) in Section::ALL.iter().enumerate() {
         parts[2 * i] = filed.offset_of(section) as u64;
         parts[2 * i + 1] = filed.length_of(section) as u64;

@@ -5,14 +5,14 @@ ghost use Rattle.archive.specs.Layout.{layout_of, handed_out, behind};
 use super::layout::{SECTION_COUNT, layout_of, section_of};
 use config::refusal::Refusal;
 
-// The file, and the number of the section at hand.
+// The file, and the number of the section at hand. By its number, as a reader goes on behind the last section.
 #[derive(Clone, Copy)]
 pub struct Reader<'a> {
     pub file: &'a [u8],
     pub at: usize,
 }
 
-// A reader at the first section.
+// A reader at the first section. No methods, here and below: the project's scope asks for a struct and thin functions.
 pub fn open<'a>(file: &'a [u8]) -> Reader<'a>
     ensures { (result.file ≡ file.entry) × (result.at ≡ 0) }
 {

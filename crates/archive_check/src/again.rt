@@ -20,7 +20,6 @@ use archive::layout::{Filed, SNAPSHOT_BYTES, Section};
 use config::limits::{LOG_SIZE, MAX_ROUND_SLOTS, RECORD_SIZE, RECORDS_SIZE, SNAPSHOT_SIZE};
 use metrics::summary::Summary;
 use metrics::totals::totals_of;
-use phy::ci::length_limit;
 use pipeline::carry::with_states;
 use pipeline::records::History;
 use protocol::state::PaxosState;
@@ -53,7 +52,7 @@ fn same_records(section: &[u8], history: &History, count: u64) -> bool
 }
 
 // Whether a section is the logs of the first n nodes, with zeros in the places that they don't use. The number stands beside the
-// table, as the writer of the logs takes it.
+// table, here and below, as the writer of the logs takes it.
 #[tactic(auto, unfolding(archive::specs::Bytes::same_bytes))]
 fn same_logs(section: &[u8], states: &[PaxosState], n: usize) -> bool
     requires { AllKept max_terms n states.now × (n ≤ max_nodes) }
@@ -119,9 +118,7 @@ fn again_with(plan: &Plan, file: Filed, states: &mut [PaxosState]) -> bool
     requires { Accepted (planned plan.now) × (states.old ≡ replicate (table_size plan.now.network.graph.nodes) no_terms) }
     ensures { result ≡ gives_again (planned plan.now) file.entry.bytes.now }
 {
-    let config = plan.config;
-    let slots = config.round_slots;
-    let longest = length_limit(slots, plan.network.diameter as u64, config.flood_repeats);
+    let longest = plan.longest();
     if longest <= FEW_SLOTS {
         with_shots::<FEW_SHOTS>(plan, file, states)
     } else {

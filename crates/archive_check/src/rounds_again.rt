@@ -51,6 +51,7 @@ fn play_again(plan: &Plan, file: Filed, work: &mut Workspace) -> Option<Stopped>
     ensures replays { Replays plan.now file.entry.bytes.now result (contents work.new) }
     ensures tables { SameTables work.old work.new }
 {
+    // `most_rounds`, spelled out, as the laws of the loop are about the sum.
     let most = plan.config.num_proposals + ENOUGH_ROUNDS;
     let limit = plan.config.max_slots;
     let mut x = new_run(plan.network.graph.nodes);

@@ -22,6 +22,11 @@ use metrics::summary::Summary;
 use metrics::totals::totals_of;
 use text::overlay::Overlay;
 
+// Where the totals and the records begin.
+const TOTALS_AT: usize = FIRST_OFFSET + INPUTS_SIZE;
+
+const RECORDS_AT: usize = TOTALS_AT + TOTALS_SIZE;
+
 // The length of a file of so many records and snapshots.
 pub fn length_of(records: usize, snapshots: usize) -> usize
     requires { (records ≤ max_terms) × (snapshot_bytes * snapshots < 2 ^ 63) }
@@ -50,13 +55,11 @@ fn put_head(records: usize, snapshots: usize, file: &mut [u8])
     requires { file_length 0 0 + records + snapshots ≤ length file.old }
     ensures { file.new ≡ sets file.old 0 (head_of records snapshots) }
 {
-    let at_totals = FIRST_OFFSET + INPUTS_SIZE;
-    let at_records = at_totals + TOTALS_SIZE;
-    let at_snapshots = at_records + records;
+    let at_snapshots = RECORDS_AT + records;
     file[0] = MARKER;
     put_pair(Section::Inputs, FIRST_OFFSET, INPUTS_SIZE, file);
-    put_pair(Section::Totals, at_totals, TOTALS_SIZE, file);
-    put_pair(Section::Records, at_records, records, file);
+    put_pair(Section::Totals, TOTALS_AT, TOTALS_SIZE, file);
+    put_pair(Section::Records, RECORDS_AT, records, file);
     put_pair(Section::Snapshots, at_snapshots, snapshots, file);
     put_pair(Section::Logs, at_snapshots + snapshots, LOG_SIZE, file);
 }
@@ -76,7 +79,7 @@ fn put_totals(summary: Summary, file: &mut [u8])
     ensures { file.new ≡ sets file.old totals_at (numbers_bytes (totals summary)) }
 {
     let numbers = totals_of(summary);
-    put_numbers(&numbers, file, FIRST_OFFSET + INPUTS_SIZE);
+    put_numbers(&numbers, file, TOTALS_AT);
 }
 
 // The file of a run, from its summary, its buffers of records and snapshots, and its logs. Its length. The buffers stay
@@ -95,13 +98,12 @@ pub fn put_file(
     let recorded = RECORD_SIZE * (summary.records as usize);
     let room = snapshots.len() / SNAPSHOT_SIZE;
     let stored = SNAPSHOT_SIZE * room.min(summary.snapshots as usize);
-    let at_records = FIRST_OFFSET + INPUTS_SIZE + TOTALS_SIZE;
-    let at_snapshots = at_records + NUMBER_SIZE * recorded;
+    let at_snapshots = RECORDS_AT + NUMBER_SIZE * recorded;
     let at_logs = at_snapshots + NUMBER_SIZE * stored;
     put_head(NUMBER_SIZE * recorded, NUMBER_SIZE * stored, file);
     put_inputs(inputs, file);
     put_totals(summary, file);
-    put_numbers(&records[..recorded], file, at_records);
+    put_numbers(&records[..recorded], file, RECORDS_AT);
     put_numbers(&snapshots[..stored], file, at_snapshots);
     let mut over = Overlay {
         out: file,

@@ -46,7 +46,7 @@ pub extern "C" fn ctsim_file_topology(
         ≡ returned_filing (inputs_from topology first second (config_from repeats round_slots_given round_slots loss seed proposals interval limit))
         logs.old records.old snapshots.old file.old written.old }
 {
-    if written.len() < 1 {
+    if written.is_empty() {
         return SHORT;
     }
     let config = config_from(

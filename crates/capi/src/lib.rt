@@ -56,7 +56,7 @@ pub extern "C" fn ctsim_rows(
     ensures { ◌≡◌ {A = ℕ × List ℕ × List ℕ} (result, out.new, nodes.new)
         (returned_rows topology first second out.old nodes.old) }
 {
-    if nodes.len() < 1 {
+    if nodes.is_empty() {
         return SHORT;
     }
     write_count(rows(topology, first, second, out), nodes)
@@ -68,7 +68,7 @@ pub extern "C" fn ctsim_rows(
 pub extern "C" fn ctsim_diameter(rows: &[u32], n: u64, links: &mut [u64]) -> u64
     ensures { ◌≡◌ {A = ℕ × List ℕ} (result, links.new) (returned_diameter rows.now n links.old) }
 {
-    if links.len() < 1 {
+    if links.is_empty() {
         return SHORT;
     }
     write_count(measure(rows, n), links)
@@ -80,7 +80,7 @@ pub extern "C" fn ctsim_diameter(rows: &[u32], n: u64, links: &mut [u64]) -> u64
 pub extern "C" fn ctsim_ratio(part: u64, whole: u64, out: &mut [f64]) -> u64
     ensures { ◌≡◌ {A = ℕ × List Float} (result, out.new) (returned_ratio part whole out.old) }
 {
-    if out.len() < 1 {
+    if out.is_empty() {
         return SHORT;
     }
     write_ratio(ratio(part, whole), out)
@@ -92,7 +92,7 @@ pub extern "C" fn ctsim_ratio(part: u64, whole: u64, out: &mut [f64]) -> u64
 pub extern "C" fn ctsim_link_pdr(summary: &[u64], out: &mut [f64]) -> u64
     ensures { ◌≡◌ {A = ℕ × List Float} (result, out.new) (returned_of link_pdr summary.now out.old) }
 {
-    if summary.len() < SUMMARY_SIZE || out.len() < 1 {
+    if summary.len() < SUMMARY_SIZE || out.is_empty() {
         return SHORT;
     }
     write_ratio(link_pdr(read_summary(summary)), out)
@@ -105,7 +105,7 @@ pub extern "C" fn ctsim_link_pdr(summary: &[u64], out: &mut [f64]) -> u64
 pub extern "C" fn ctsim_flood_coverage(summary: &[u64], out: &mut [f64]) -> u64
     ensures { ◌≡◌ {A = ℕ × List Float} (result, out.new) (returned_of flood_coverage summary.now out.old) }
 {
-    if summary.len() < SUMMARY_SIZE || out.len() < 1 {
+    if summary.len() < SUMMARY_SIZE || out.is_empty() {
         return SHORT;
     }
     write_ratio(flood_coverage(read_summary(summary)), out)
@@ -217,7 +217,7 @@ pub extern "C" fn ctsim_preview_topology(
         (preview_for (of_topology topology first second) (config_from repeats round_slots_given round_slots loss seed proposals interval limit) round)
         packet.old part.old) }
 {
-    if packet.len() < PACKET_SIZE || part.len() < 1 {
+    if packet.len() < PACKET_SIZE || part.is_empty() {
         return SHORT;
     }
     let config = config_from(
@@ -257,7 +257,7 @@ pub extern "C" fn ctsim_preview_rows(
         (preview_for (of_rows rows.now n) (config_from repeats round_slots_given round_slots loss seed proposals interval limit) round)
         packet.old part.old) }
 {
-    if packet.len() < PACKET_SIZE || part.len() < 1 {
+    if packet.len() < PACKET_SIZE || part.is_empty() {
         return SHORT;
     }
     let config = config_from(
@@ -287,7 +287,7 @@ pub extern "C" fn ctsim_write_packet(
     ensures { ◌≡◌ {A = ℕ × List ℕ × List ℕ} (result, text.new, written.new)
         (returned_text packet.now flags text.old written.old) }
 {
-    if packet.len() < PACKET_SIZE || written.len() < 1 {
+    if packet.len() < PACKET_SIZE || written.is_empty() {
         return SHORT;
     }
     write_text(packet, flags, text, written)
@@ -300,7 +300,7 @@ pub extern "C" fn ctsim_read_packet(text: &[u8], packet: &mut [u64], flags: &mut
     ensures { ◌≡◌ {A = ℕ × List ℕ × List ℕ} (result, packet.new, flags.new)
         (returned_packet (reading text.now) packet.old flags.old) }
 {
-    if packet.len() < PACKET_SIZE || flags.len() < 1 {
+    if packet.len() < PACKET_SIZE || flags.is_empty() {
         return SHORT;
     }
     write_reading(read_packet(text), packet, flags)

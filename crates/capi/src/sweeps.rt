@@ -35,7 +35,7 @@ pub extern "C" fn ctsim_sweep_topology(
         (returned_sweep (of_topology topology first second) (config_from repeats round_slots_given round_slots loss no_seed proposals interval limit)
         seeds.now table.old rounds.old) }
 {
-    if rounds.len() < 1 {
+    if rounds.is_empty() {
         return SHORT;
     }
     let config = config_from(
@@ -74,7 +74,7 @@ pub extern "C" fn ctsim_sweep_rows(
         (returned_sweep (of_rows rows.now n) (config_from repeats round_slots_given round_slots loss no_seed proposals interval limit)
         seeds.now table.old rounds.old) }
 {
-    if rounds.len() < 1 {
+    if rounds.is_empty() {
         return SHORT;
     }
     let config = config_from(

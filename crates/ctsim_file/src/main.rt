@@ -18,7 +18,8 @@ use streams::{give_answer, take_input};
 // follows.
 const INPUT_SIZE: usize = 4096;
 
-// The length of the longest file: of the most records, and of as many snapshots as the program stores.
+// The length of the longest file: of the most records, and of as many snapshots as the program stores. As
+// `length_of` adds them up, which a constant cannot call.
 const FILE_SIZE: usize = FIRST_OFFSET
     + INPUTS_SIZE
     + TOTALS_SIZE

@@ -55,7 +55,7 @@ fn print_answer(rt: &impl Print, answer: Result<Summary, Refusal>) -> io::Result
     }
 }
 
-// The buffers stay apart, as for a run.
+// The buffers stay apart, here and below, as for a run.
 fn print_kept(rt: &impl Print, logs: &[u8], records: &[u64], snapshots: &[u64]) -> io::Result<()> {
     println!(rt;
         " kept {} {} {}",

@@ -21,6 +21,7 @@ fn zeros(bytes: &[u8]) -> usize
 
 pub fn put_bytes(rt: &impl Print, bytes: &[u8]) -> io::Result<()> {
     let mut rest = bytes;
+    // A step takes one byte or a run of zeros, so how many steps there are is not known before.
     while let [first, behind @ ..] = rest {
         let count = zeros(rest);
         if count < LEAST_RUN {

@@ -61,6 +61,7 @@ pub struct Making {
     pub damage: Damage,
 }
 
+// No table of functions: two of the words have a bound of their own on N.
 fn damage_of(how: &[u8], n: u64) -> Option<Damage> {
     match how {
         b"flip" => Some(Damage::Flip(n)),

@@ -15,7 +15,8 @@ pub fn done_result<T>(answer: &Result<T, Refusal>) -> u64
 }
 
 // The result of a call that has a number for an answer; the number is written if there is one. A slice, here and in `convert`, as
-// C lends one: `capi` asks for its place.
+// C lends one: `capi` asks for its place. With a closure for what is written, here and in the other modules, its contract would
+// say what each writes.
 pub fn write_number(answer: Result<u64, Refusal>, out: &mut [u64]) -> u64
     requires { 1 ≤ length out.old }
     ensures { ◌≡◌ {A = ℕ × List ℕ} (result, out.new) (number_result answer out.old) }

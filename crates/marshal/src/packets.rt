@@ -10,7 +10,7 @@ use phy::packet::{Packet, Piggyback};
 // How many places a packet has.
 pub const PACKET_SIZE: usize = 13;
 
-// Whether a term is given, 1 or 0, and the term, 0 where it is not.
+// Whether a term is given, 1 or 0, and the term, 0 where it is not. No From, here and below: C gives a value in two numbers.
 fn term_numbers(term: Option<Term>) -> (u64, u64)
     ensures { result.0 ∷ result.1 ∷ [] ≡ term_numbers (term_in term) }
 {
@@ -79,7 +79,7 @@ pub fn formed(s: &[u64]) -> bool
         && s[11] <= s[9]
 }
 
-// The term, if it is given. No From, here and below: C gives a value in two numbers.
+// The term, if it is given.
 fn term_from(given: u64, t: u64) -> Option<Term>
     ensures { result ≡ term_from given t }
 {

@@ -63,11 +63,13 @@ fn print_packet(rt: &impl Print, text: &[u8]) -> io::Result<()> {
 }
 
 fn answer(rt: &impl Print, line: &[u8]) -> io::Result<()> {
-    if line.starts_with(b"packet ") {
-        return print_text(rt, line);
+    match field(line, 0) {
+        b"packet" => print_text(rt, line),
+        _ => {
+            let at = field_start(line, 1);
+            print_packet(rt, &line[at..])
+        }
     }
-    let at = field_start(line, 1);
-    print_packet(rt, &line[at..])
 }
 
 // A failed write ends it, and is told by nothing else: what is printed is compared.

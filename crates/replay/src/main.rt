@@ -37,6 +37,9 @@ const INPUT_SIZE: usize = 131072;
 // More than a readable configuration has.
 const CONFIG: usize = 256;
 
+// What stands in the place of a topology and its two numbers, where a configuration is read.
+const FRONT: &[u8] = b"0 0 0 ";
+
 // What a line with rows begins with.
 const ROWS: &[u8] = b"rows ";
 
@@ -66,9 +69,10 @@ fn sets(text: &[u8]) -> [u32; SETS]
 // The configuration that the rest of a line asks for, which is read as the end of a topology's line.
 fn read_config(rest: &[u8]) -> Result<Config, Refusal> {
     let mut line = [0u8; CONFIG];
-    let end = 6 + rest.len().min(CONFIG - 6);
-    line[..6].copy_from_slice(b"0 0 0 ");
-    line[6..end].copy_from_slice(&rest[..end - 6]);
+    let start = FRONT.len();
+    let end = start + rest.len().min(CONFIG - start);
+    line[..start].copy_from_slice(FRONT);
+    line[start..end].copy_from_slice(&rest[..end - start]);
     read_line(&line[..end]).map(Config::from)
 }
 
@@ -126,6 +130,7 @@ fn answer_from<F: Fn(Asked, Config) -> io::Result<()>>(
     if rest.starts_with(ROWS) {
         return answer_rows(rt, rest, show);
     }
+    // No `From<Line>` for `Asked`: they are types of two crates, and neither uses the other.
     match read_line(rest) {
         Ok(l) => show(
             Asked::Topology(l.topology, l.first, l.second),

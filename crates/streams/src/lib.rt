@@ -7,7 +7,7 @@ use std::io;
 use std::io::{Print, Read};
 
 // Reads until the input has ended, the buffer is full or a read fails, or what a read brought is enough. Says how many bytes
-// then stand at the buffer's start, and whether no read failed.
+// then stand at the buffer's start, and whether no read failed: `answer_lines` answers also what stands there when a read fails.
 fn read_until<R: Read, F: Fn(&[u8]) -> bool>(
     from: &mut R,
     buf: &mut [u8],
