@@ -1,11 +1,9 @@
 -- What each entry for C returns, and the final contents of the lent slices (rules 7.5 to 7.8, 9.4, 12.7 and 15.9). The result is 0 or the refusal's
 -- number; a refusal leaves every slice as it was. `short` is these entries' own and asked first: has the slice of a summary, of a packet
 -- or of a single result its places?
-use Rattle.std.specs.Prelude.{ℕ, ◌≤◌, ◌≡◌, cond, ◌&&◌, List, [], ◌∷◌, leb, Float, length, Option, Result, Ok, Err}
-use Rattle.std.proofs.lemmas.List.Edits.{sets}
+use Rattle.std.specs.Prelude.{ℕ, ◌≤◌, ◌≡◌, cond, ◌&&◌, List, leb, Float, length, Option, Result}
 use Rattle.network.specs.Topology.{built_rows}
 use Rattle.network.specs.Distance.{measured}
-use Rattle.config.specs.Refusals.{number_of}
 use Rattle.config.specs.declared.refusal.Refusal.{Refusal}
 use Rattle.metrics.specs.declared.summary.Summary.{Summary}
 use Rattle.config.specs.declared.Config.{Config}
