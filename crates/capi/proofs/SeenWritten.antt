@@ -66,10 +66,10 @@ seen_is_written q c k packet part text written e long place = go (preview_for q 
   where
     go : (v : Result SeenRound Refusal) → preview_for q c k ≡ v → (returned_preview v packet part).0 ≡ 0 → (returned_text (returned_preview v packet part).1 (given_for q c).nodes text written).0 ≡ 0
     go (Ok seen) is e =
-        let there = done packet part (preview_result (Ok seen) packet part) (short, packet, part) refl e in
+        let there = done packet part (preview_result number_of (Ok seen) packet part) (short, packet, part) refl e in
         ap (λ r. (returned_text r.1 (given_for q c).nodes text written).0) there.1
         ∙ from_slice seen.packet (given_for q c).nodes packet text written there.0 (seen_have_texts q c k seen is) long place
     go (Err j) is e =
-        let there = done packet part (preview_result (Err j) packet part) (short, packet, part) refl e in
+        let there = done packet part (preview_result number_of (Err j) packet part) (short, packet, part) refl e in
         let zero : number_of j ≡ 0 = sym (ap (λ r. r.0) there.1) ∙ e in
         absurd (omega (arith, zero, leb-true 1 (number_of j) (and_both (leb 1 (number_of j)) (leb (number_of j) 99) (refusal_numbered j)).0))

@@ -4,6 +4,7 @@
 use Rattle.std.specs.Prelude.{ℕ, ◌≤◌, ◌≡◌, cond, ◌&&◌, List, leb, Float, length, Option, Result}
 use Rattle.network.specs.Topology.{built_rows}
 use Rattle.network.specs.Distance.{measured}
+use Rattle.config.specs.Refusals.{number_of}
 use Rattle.config.specs.declared.refusal.Refusal.{Refusal}
 use Rattle.metrics.specs.declared.summary.Summary.{Summary}
 use Rattle.config.specs.declared.Config.{Config}
@@ -27,7 +28,7 @@ short = 100
 
 -- of a call that fills a slice and has a number for an answer: the result, the slice, and that of the number
 abbrev pub filled_result : Result ℕ Refusal × List ℕ → List ℕ → ℕ × List ℕ × List ℕ
-filled_result (answer, out) number = let r = number_result answer number in (r.0, out, r.1)
+filled_result (answer, out) number = let r = number_result number_of answer number in (r.0, out, r.1)
 
 -- rows of a topology
 unfoldable pub returned_rows : ℕ → ℕ → ℕ → List ℕ → List ℕ → ℕ × List ℕ × List ℕ
@@ -36,11 +37,11 @@ returned_rows topology first second out nodes =
 
 -- diameter of rows
 unfoldable pub returned_diameter : List ℕ → ℕ → List ℕ → ℕ × List ℕ
-returned_diameter rows n links = cond (leb 1 (length links)) (number_result (measured rows n) links) (short, links)
+returned_diameter rows n links = cond (leb 1 (length links)) (number_result number_of (measured rows n) links) (short, links)
 
 -- ratio
 unfoldable pub returned_ratio : ℕ → ℕ → List Float → ℕ × List Float
-returned_ratio part whole out = cond (leb 1 (length out)) (ratio_result (ratio_of part whole) out) (short, out)
+returned_ratio part whole out = cond (leb 1 (length out)) (ratio_result number_of (ratio_of part whole) out) (short, out)
 
 -- the two ratios of a run: successes over attempts, and covered nodes over the nodes of all floods
 abbrev pub link_pdr : Summary → Result (Option Float) Refusal
@@ -50,7 +51,7 @@ abbrev pub flood_coverage : Summary → Result (Option Float) Refusal
 flood_coverage s = ratio_of s.covered s.flood_nodes
 
 unfoldable pub returned_of : (Summary → Result (Option Float) Refusal) → List ℕ → List Float → ℕ × List Float
-returned_of f summary out = cond (leb summary_size (length summary) && leb 1 (length out)) (ratio_result (f (summary_at summary)) out) (short, out)
+returned_of f summary out = cond (leb summary_size (length summary) && leb 1 (length out)) (ratio_result number_of (f (summary_at summary)) out) (short, out)
 
 -- the result of a run, and what the slices hold afterwards
 pub record Returned : Type 0 where
@@ -64,7 +65,7 @@ abbrev pub returned : ℕ → List ℕ → List ℕ → List ℕ → List ℕ �
 returned k s l r p = record { result = k; summary = s; logs = l; records = r; snapshots = p }
 
 abbrev pub returned_outcome : List ℕ → Outcome → Returned
-returned_outcome summary o = returned (result_of o.answer) (with_summary o.answer summary) o.logs o.records o.snapshots
+returned_outcome summary o = returned (result_of number_of o.answer) (with_summary o.answer summary) o.logs o.records o.snapshots
 
 -- what a run with this outcome returns
 unfoldable pub returned_run : Outcome → List ℕ → List ℕ → List ℕ → List ℕ → Returned
@@ -85,7 +86,7 @@ if_room packet number done refused = cond (leb packet_size (length packet) && le
 
 -- look ahead: the result, the packet's slice and that of the set
 abbrev pub returned_preview : Result SeenRound Refusal → List ℕ → List ℕ → ℕ × List ℕ × List ℕ
-returned_preview answer packet part = if_room packet part (preview_result answer packet part) (short, packet, part)
+returned_preview answer packet part = if_room packet part (preview_result number_of answer packet part) (short, packet, part)
 
 -- a packet's text: the result, the text's slice and that of its length
 abbrev pub returned_text : List ℕ → ℕ → List ℕ → List ℕ → ℕ × List ℕ × List ℕ
@@ -93,7 +94,7 @@ returned_text packet n text written = if_room packet written (written_from packe
 
 -- the packet of a text: the result, the packet's slice and that of its number of flags
 abbrev pub returned_packet : Result (Packet × ℕ) Refusal → List ℕ → List ℕ → ℕ × List ℕ × List ℕ
-returned_packet answer packet flags = if_room packet flags (reading_result answer packet flags) (short, packet, flags)
+returned_packet answer packet flags = if_room packet flags (reading_result number_of answer packet flags) (short, packet, flags)
 
 -- a sweep's seeds are a list, and its configuration has none of its own
 abbrev pub no_seed : ℕ

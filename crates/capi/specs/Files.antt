@@ -1,6 +1,7 @@
 -- What the entries for archive files return, and the final contents of the lent slices (rules 16.8 and 17.6).
 use Rattle.std.specs.Prelude.{ℕ, cond, List, leb, length, Result}
 use Rattle.config.specs.declared.Config.{Config}
+use Rattle.config.specs.Refusals.{number_of}
 use Rattle.config.specs.declared.refusal.Refusal.{Refusal}
 use Rattle.archive.specs.declared.inputs.Inputs.{Inputs}
 use Rattle.archive.specs.Layout.{parts_size, parts_told}
@@ -29,7 +30,7 @@ returned_file k l r s f w = record { result = k; logs = l; records = r; snapshot
 
 abbrev pub returned_as : Filing → List ℕ → ReturnedFile
 returned_as f written =
-    let r = number_result f.answer written in returned_file r.0 f.logs f.records f.snapshots f.file r.1
+    let r = number_result number_of f.answer written in returned_file r.0 f.logs f.records f.snapshots f.file r.1
 
 unfoldable pub returned_filing : Inputs → List ℕ → List ℕ → List ℕ → List ℕ → List ℕ → ReturnedFile
 returned_filing x logs records snapshots file written =
@@ -37,11 +38,11 @@ returned_filing x logs records snapshots file written =
 
 -- the reader's result, and the slice of the sections' offsets and lengths
 abbrev pub told_result : Result (Unit {0}) Refusal × List ℕ → ℕ × List ℕ
-told_result (answer, parts) = (done_result answer, parts)
+told_result (answer, parts) = (done_result number_of answer, parts)
 
 unfoldable pub returned_sections : List ℕ → List ℕ → ℕ × List ℕ
 returned_sections file parts = cond (leb parts_size (length parts)) (told_result (parts_told file parts)) (short, parts)
 
 -- the result for two files, and the slice of the part's numbers
 unfoldable pub returned_part : List ℕ → List ℕ → List ℕ → ℕ × List ℕ
-returned_part first second part = cond (leb place_size (length part)) (superseding_result (which_supersedes first second) part) (short, part)
+returned_part first second part = cond (leb place_size (length part)) (superseding_result number_of (which_supersedes first second) part) (short, part)

@@ -1,5 +1,6 @@
 // The entries for archive files: the writer, the reader, the check, and which of two supersedes.
 ghost use Rattle.std.specs.Prelude.{ℕ, ◌≡◌, List};
+ghost use Rattle.config.specs.Refusals.{number_of};
 ghost use Rattle.marshal.specs.Convert.{config_from};
 ghost use Rattle.marshal.specs.Files.{check_result};
 ghost use Rattle.archive_check.specs.Check.{check_of};
@@ -84,7 +85,7 @@ pub extern "C" fn ctsim_file_sections(file: &[u8], parts: &mut [u64]) -> u64
 // Checks a file: 0 yes, 102 no.
 #[unsafe(no_mangle)]
 pub extern "C" fn ctsim_file_check(file: &[u8]) -> u64
-    ensures { result ≡ check_result (check_of file.now) }
+    ensures { result ≡ check_result number_of (check_of file.now) }
 {
     check_result(check_file(file))
 }

@@ -1,5 +1,6 @@
 // The entries for configurations that were filed earlier.
 ghost use Rattle.std.specs.Prelude.{◌≡◌};
+ghost use Rattle.config.specs.Refusals.{number_of};
 ghost use Rattle.marshal.specs.Convert.{config_from};
 ghost use Rattle.rules.specs.Networks.{of_rows, of_topology};
 ghost use Rattle.validity.specs.Validity.{validity_for, validity_number};
@@ -23,7 +24,7 @@ pub extern "C" fn ctsim_validity_topology(
     interval: u64,
     limit: u64,
 ) -> u64
-    ensures { result ≡ validity_number (validity_for (of_topology topology first second)
+    ensures { result ≡ validity_number number_of (validity_for (of_topology topology first second)
         (config_from repeats round_slots_given round_slots loss seed proposals interval limit)) }
 {
     let config = config_from(
@@ -54,7 +55,7 @@ pub extern "C" fn ctsim_validity_rows(
     interval: u64,
     limit: u64,
 ) -> u64
-    ensures { result ≡ validity_number (validity_for (of_rows rows.now n)
+    ensures { result ≡ validity_number number_of (validity_for (of_rows rows.now n)
         (config_from repeats round_slots_given round_slots loss seed proposals interval limit)) }
 {
     let config = config_from(

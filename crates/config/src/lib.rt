@@ -2,6 +2,7 @@
 #![tactic(auto)]
 
 pub mod limits;
+pub mod numbered;
 pub mod rate;
 pub mod refusal;
 

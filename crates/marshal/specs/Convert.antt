@@ -1,8 +1,6 @@
 -- A call's numbers as a configuration, and a summary and a ratio as numbers (rules 7.5 and 9.4).
 use Rattle.std.specs.Prelude.{ℕ, cond, List, [], ◌∷◌, ◌++◌, eqb, Float, get_or, Option, Some, None, Result, Ok, Err}
 use Rattle.std.proofs.lemmas.List.Edits.{sets}
-use Rattle.config.specs.Refusals.{number_of}
-use Rattle.config.specs.declared.refusal.Refusal.{Refusal}
 use Rattle.config.specs.declared.Config.{Config}
 use Rattle.metrics.specs.declared.summary.Summary.{Summary}
 use Rattle.metrics.specs.Totals.{totals}
@@ -32,11 +30,11 @@ abbrev pub summary_numbers : Summary → List ℕ
 summary_numbers s = totals s ++ s.records ∷ s.snapshots ∷ []
 
 -- a run's result, and the slice of its summary
-abbrev pub result_of : Result Summary Refusal → ℕ
-result_of (Ok s) = 0
-result_of (Err r) = number_of r
+abbrev pub result_of : {R : Type 0} → (R → ℕ) → Result Summary R → ℕ
+result_of number (Ok s) = 0
+result_of number (Err r) = number r
 
-abbrev pub with_summary : Result Summary Refusal → List ℕ → List ℕ
+abbrev pub with_summary : {R : Type 0} → Result Summary R → List ℕ → List ℕ
 with_summary (Ok s) out = sets out 0 (summary_numbers s)
 with_summary (Err r) out = out
 
@@ -68,7 +66,7 @@ abbrev pub no_ratio : ℕ
 no_ratio = 101
 
 -- the result of a ratio, and the slice that it is written to
-abbrev pub ratio_result : Result (Option Float) Refusal → List Float → ℕ × List Float
-ratio_result (Ok None) out = (no_ratio, out)
-ratio_result (Ok (Some x)) out = (0, sets out 0 (x ∷ []))
-ratio_result (Err r) out = (number_of r, out)
+abbrev pub ratio_result : {R : Type 0} → (R → ℕ) → Result (Option Float) R → List Float → ℕ × List Float
+ratio_result number (Ok None) out = (no_ratio, out)
+ratio_result number (Ok (Some x)) out = (0, sets out 0 (x ∷ []))
+ratio_result number (Err r) out = (number r, out)

@@ -20,6 +20,6 @@ abbrev pub written_from : List ℕ → ℕ → List ℕ → List ℕ → ℕ × 
 written_from numbers n text size = writing_result (written numbers n text) size
 
 -- the result, the packet's slice and that of its number of flags
-abbrev pub reading_result : Result (Packet × ℕ) Refusal → List ℕ → List ℕ → ℕ × List ℕ × List ℕ
-reading_result (Ok (p, n)) packet flags = (0, sets packet 0 (packet_numbers p), sets flags 0 (n ∷ []))
-reading_result (Err r) packet flags = (number_of r, packet, flags)
+abbrev pub reading_result : {R : Type 0} → (R → ℕ) → Result (Packet × ℕ) R → List ℕ → List ℕ → ℕ × List ℕ × List ℕ
+reading_result number (Ok (p, n)) packet flags = (0, sets packet 0 (packet_numbers p), sets flags 0 (n ∷ []))
+reading_result number (Err r) packet flags = (number r, packet, flags)

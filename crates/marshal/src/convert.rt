@@ -5,7 +5,7 @@ ghost use Rattle.marshal.specs.Convert.{summary_size, slots_from, config_from, s
 
 use super::numbers::done_result;
 use config::Config;
-use config::refusal::Refusal;
+use config::numbered::Numbered;
 use metrics::summary::Summary;
 use metrics::totals::{TOTAL_COUNT, totals_of};
 
@@ -86,9 +86,9 @@ pub fn read_summary(s: &[u64]) -> Summary
 }
 
 // The result of a ratio, which is written to the first place if there is one.
-pub fn write_ratio(answer: Result<Option<f64>, Refusal>, out: &mut [f64]) -> u64
+pub fn write_ratio<R: Numbered>(answer: Result<Option<f64>, R>, out: &mut [f64]) -> u64
     requires { 1 ≤ length out.old }
-    ensures { ◌≡◌ {A = ℕ × List Float} (result, out.new) (ratio_result answer out.old) }
+    ensures { ◌≡◌ {A = ℕ × List Float} (result, out.new) (ratio_result R.number answer out.old) }
 {
     match answer {
         Ok(Some(x)) => {
@@ -101,9 +101,9 @@ pub fn write_ratio(answer: Result<Option<f64>, Refusal>, out: &mut [f64]) -> u64
 }
 
 // The result of a run's answer; the summary is written if there is one.
-pub fn write_answer(answer: Result<Summary, Refusal>, out: &mut [u64]) -> u64
+pub fn write_answer<R: Numbered>(answer: Result<Summary, R>, out: &mut [u64]) -> u64
     requires { summary_size ≤ length out.old }
-    ensures { ◌≡◌ {A = ℕ × List ℕ} (result, out.new) (result_of answer, with_summary answer out.old) }
+    ensures { ◌≡◌ {A = ℕ × List ℕ} (result, out.new) (result_of R.number answer, with_summary answer out.old) }
 {
     if let Ok(summary) = answer {
         write_summary(summary, out);

@@ -5,7 +5,7 @@ ghost use Rattle.marshal.specs.Files.{check_result, place_size, place_numbers, s
 
 use super::numbers::done_result;
 use archive_supersede::{Place, Superseding};
-use config::refusal::Refusal;
+use config::numbered::Numbered;
 
 // The check's result where the file is not what the writer makes. It is no refusal.
 pub const CHECKED_NO: u64 = 102;
@@ -16,8 +16,8 @@ const FIRST_FILE: u64 = 0;
 const SECOND_FILE: u64 = 1;
 
 // The check's result.
-pub fn check_result(answer: Result<bool, Refusal>) -> u64
-    ensures { result ≡ check_result answer }
+pub fn check_result<R: Numbered>(answer: Result<bool, R>) -> u64
+    ensures { result ≡ check_result R.number answer }
 {
     match answer {
         Ok(true) => 0,
@@ -37,9 +37,9 @@ fn put_place(file: u64, place: Place, part: &mut [u64])
 }
 
 // The result for two files; the place of the records that supersede is written if there is one.
-pub fn write_superseding(answer: Result<Superseding, Refusal>, part: &mut [u64]) -> u64
+pub fn write_superseding<R: Numbered>(answer: Result<Superseding, R>, part: &mut [u64]) -> u64
     requires { place_size ≤ length part.old }
-    ensures { ◌≡◌ {A = ℕ × List ℕ} (result, part.new) (superseding_result answer part.old) }
+    ensures { ◌≡◌ {A = ℕ × List ℕ} (result, part.new) (superseding_result R.number answer part.old) }
 {
     match answer {
         Ok(Superseding::First(place)) => put_place(FIRST_FILE, place, part),

@@ -2,11 +2,11 @@
 ghost use Rattle.std.specs.Prelude.{ℕ, ◌≤◌, ◌≡◌, List, length};
 ghost use Rattle.marshal.specs.Numbers.{done_result, number_result};
 
-use config::refusal::Refusal;
+use config::numbered::Numbered;
 
 // The result of a call that has this answer, whatever it answers with.
-pub fn done_result<T>(answer: &Result<T, Refusal>) -> u64
-    ensures { result ≡ done_result answer.now }
+pub fn done_result<T, R: Numbered>(answer: &Result<T, R>) -> u64
+    ensures { result ≡ done_result R.number answer.now }
 {
     match answer {
         Ok(_) => 0,
@@ -17,9 +17,9 @@ pub fn done_result<T>(answer: &Result<T, Refusal>) -> u64
 // The result of a call that has a number for an answer; the number is written if there is one. A slice, here and in `convert`, as
 // C lends one: `capi` asks for its place. With a closure for what is written, here and in the other modules, its contract would
 // say what each writes.
-pub fn write_number(answer: Result<u64, Refusal>, out: &mut [u64]) -> u64
+pub fn write_number<R: Numbered>(answer: Result<u64, R>, out: &mut [u64]) -> u64
     requires { 1 ≤ length out.old }
-    ensures { ◌≡◌ {A = ℕ × List ℕ} (result, out.new) (number_result answer out.old) }
+    ensures { ◌≡◌ {A = ℕ × List ℕ} (result, out.new) (number_result R.number answer out.old) }
 {
     if let Ok(n) = answer {
         out[0] = n;
@@ -28,9 +28,9 @@ pub fn write_number(answer: Result<u64, Refusal>, out: &mut [u64]) -> u64
 }
 
 // And of a call whose answer is a count.
-pub fn write_count(answer: Result<usize, Refusal>, out: &mut [u64]) -> u64
+pub fn write_count<R: Numbered>(answer: Result<usize, R>, out: &mut [u64]) -> u64
     requires { 1 ≤ length out.old }
-    ensures { ◌≡◌ {A = ℕ × List ℕ} (result, out.new) (number_result answer out.old) }
+    ensures { ◌≡◌ {A = ℕ × List ℕ} (result, out.new) (number_result R.number answer out.old) }
 {
     write_number(answer.map(|n| n as u64), out)
 }

@@ -5,18 +5,18 @@ ghost use Rattle.marshal.specs.Previews.{preview_result};
 
 use super::numbers::done_result;
 use super::packets::put_numbers;
-use config::refusal::Refusal;
+use config::numbered::Numbered;
 use rules::answer::SeenRound;
 
 // The result of a look ahead; the packet and the set of nodes are written if there is one.
-pub fn write_preview(
-    answer: Result<SeenRound, Refusal>,
+pub fn write_preview<R: Numbered>(
+    answer: Result<SeenRound, R>,
     packet: &mut [u64],
     part: &mut [u64],
 ) -> u64
     requires { (packet_size ≤ length packet.old) × (1 ≤ length part.old) }
     ensures { ◌≡◌ {A = ℕ × List ℕ × List ℕ} (result, packet.new, part.new)
-        (preview_result answer packet.old part.old) }
+        (preview_result R.number answer packet.old part.old) }
 {
     if let Ok(seen) = answer {
         put_numbers(seen.packet, packet);

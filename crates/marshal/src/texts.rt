@@ -6,6 +6,7 @@ ghost use Rattle.marshal.specs.Texts.{reading_result, written, written_from};
 
 use super::numbers::{done_result, write_count};
 use super::packets::{formed, put_numbers, read_numbers};
+use config::numbered::Numbered;
 use config::refusal::Refusal;
 use phy::packet::Packet;
 use wire::write_packet;
@@ -32,14 +33,14 @@ pub fn write_text(numbers: &[u64], flags: u64, text: &mut [u8], written: &mut [u
 }
 
 // The result of reading; the packet and its number of flags are written if there is one.
-pub fn write_reading(
-    answer: Result<(Packet, u64), Refusal>,
+pub fn write_reading<R: Numbered>(
+    answer: Result<(Packet, u64), R>,
     packet: &mut [u64],
     flags: &mut [u64],
 ) -> u64
     requires { (packet_size ≤ length packet.old) × (1 ≤ length flags.old) }
     ensures { ◌≡◌ {A = ℕ × List ℕ × List ℕ} (result, packet.new, flags.new)
-        (reading_result answer packet.old flags.old) }
+        (reading_result R.number answer packet.old flags.old) }
 {
     if let Ok((p, n)) = answer {
         put_numbers(p, packet);

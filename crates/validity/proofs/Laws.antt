@@ -140,7 +140,7 @@ pub numbers_tell : NumbersTell
 numbers_tell q q' c c' same = go (validity_for q c) (validity_for q' c') (refused_low q c) (refused_low q' c') same
   where
     -- a refusal's number is neither 0 nor 16
-    go : (v w : Result Validity Refusal) → ((k : Refusal) → v ≡ Err k → (1 ≤ number_of k) × (number_of k ≤ 9)) → ((k : Refusal) → w ≡ Err k → (1 ≤ number_of k) × (number_of k ≤ 9)) → validity_number v ≡ validity_number w → v ≡ w
+    go : (v w : Result Validity Refusal) → ((k : Refusal) → v ≡ Err k → (1 ≤ number_of k) × (number_of k ≤ 9)) → ((k : Refusal) → w ≡ Err k → (1 ≤ number_of k) × (number_of k ≤ 9)) → validity_number number_of v ≡ validity_number number_of w → v ≡ w
     go (Ok Current) (Ok Current) f g e = refl
     go (Ok Current) (Ok Outdated) f g e = absurd (omega (arith, e))
     go (Ok Current) (Err k) f g e = absurd (omega (arith, e, g k refl))

@@ -59,5 +59,5 @@ RefusedToo =
 abbrev pub NumbersTell : Type 0
 NumbersTell =
     (q q' : RowsOrTopology) (c c' : Config) →
-    validity_number (validity_for q c) ≡ validity_number (validity_for q' c') →
+    validity_number number_of (validity_for q c) ≡ validity_number number_of (validity_for q' c') →
     validity_for q c ≡ validity_for q' c'

@@ -39,8 +39,8 @@ validity_of questions = validity_as (every_no questions)
 unfoldable pub validity_for : RowsOrTopology → Config → Result Validity Refusal
 validity_for q c = validity_of (questions_for q c)
 
--- the number that tells it: 0 current, 16 outdated, else the refusal's
-abbrev pub validity_number : Result Validity Refusal → ℕ
-validity_number (Ok Current) = 0
-validity_number (Ok Outdated) = short_round
-validity_number (Err k) = number_of k
+-- the number that tells it: 0 current, 16 outdated, else that of the refusal
+abbrev pub validity_number : {R : Type 0} → (R → ℕ) → Result Validity R → ℕ
+validity_number number (Ok Current) = 0
+validity_number number (Ok Outdated) = short_round
+validity_number number (Err k) = number k

@@ -8,6 +8,7 @@ ghost use Rattle.rules.specs.Questions.{config_questions};
 ghost use Rattle.validity.specs.Validity.{validity_of, validity_for, validity_number};
 
 use config::Config;
+use config::numbered::Numbered;
 use config::refusal::Refusal;
 use rules::networks::{Asked, ask_graph};
 use rules::questions::{ask_config, ask_others};
@@ -20,8 +21,8 @@ pub enum Validity {
 }
 
 // The number that tells it: 0 current, 16 outdated, else the refusal's.
-pub fn number(validity: Result<Validity, Refusal>) -> u64
-    ensures { result ≡ validity_number validity }
+pub fn number<R: Numbered>(validity: Result<Validity, R>) -> u64
+    ensures { result ≡ validity_number R.number validity }
 {
     match validity {
         Ok(Validity::Current) => 0,
