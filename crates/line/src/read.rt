@@ -24,7 +24,7 @@ pub struct Line {
 }
 
 // The bytes before the first `stop`.
-fn part_before(s: &[u8], stop: u8) -> &[u8]
+pub fn part_before(s: &[u8], stop: u8) -> &[u8]
     ensures { result.now ≡ bytes_before stop s.now }
 {
     s.split(|&byte| byte == stop).next().unwrap_or(&[])

@@ -14,11 +14,15 @@ use marshal::packets::{PACKET_SIZE, put_numbers};
 use marshal::texts::put_text;
 use std::io;
 use streams::answer_lines;
+use streams::unfailing::Unfailing;
 use text::numeral::decimal;
 use wire::put::TEXT_SIZE;
 use wire_reader::read_packet;
 
 const INPUT_SIZE: usize = 131072;
+
+// The length of a line's first word, if it is `packet`.
+const PACKET_WORD: usize = 6;
 
 // A packet's numbers behind the line's first two fields, if all are readable.
 fn numbers(line: &[u8]) -> Option<[u64; PACKET_SIZE]>
@@ -63,8 +67,8 @@ fn print_packet(rt: &impl Print, text: &[u8]) -> io::Result<()> {
 }
 
 fn answer(rt: &impl Print, line: &[u8]) -> io::Result<()> {
-    match field(line, 0) {
-        b"packet" => print_text(rt, line),
+    match field(line, 0).len() {
+        PACKET_WORD => print_text(rt, line),
         _ => {
             let at = field_start(line, 1);
             print_packet(rt, &line[at..])
@@ -72,7 +76,8 @@ fn answer(rt: &impl Print, line: &[u8]) -> io::Result<()> {
     }
 }
 
-// A failed write ends it, and is told by nothing else: what is printed is compared.
+// A write that fails ends nothing, and nobody is told: what is printed is compared.
 fn main(rt: HostRuntime) {
-    let _ = answer_lines(&rt, &mut [0u8; INPUT_SIZE], |line| answer(&rt, line));
+    let to = Unfailing(&rt);
+    let _ = answer_lines(&rt, &mut [0u8; INPUT_SIZE], |line| answer(&to, line));
 }

@@ -28,6 +28,7 @@ use rules::networks::Asked;
 use sim::entries::run;
 use std::io;
 use streams::answer_lines;
+use streams::unfailing::Unfailing;
 use sweeps_shown::{Seeds, show_sweep};
 use text::numeral::{decimal, numeral};
 use validities_shown::show_validity;
@@ -39,9 +40,6 @@ const CONFIG: usize = 256;
 
 // What stands in the place of a topology and its two numbers, where a configuration is read.
 const FRONT: &[u8] = b"0 0 0 ";
-
-// What a line with rows begins with.
-const ROWS: &[u8] = b"rows ";
 
 // The sets of all nodes, and one too many.
 const SETS: usize = MAX_NODES + 1;
@@ -76,15 +74,19 @@ fn read_config(rest: &[u8]) -> Result<Config, Refusal> {
     read_line(&line[..end]).map(Config::from)
 }
 
-// Prints the listing of a run, or the refusal.
-fn show_run(rt: &impl Print, asked: Asked, config: Config) -> io::Result<()> {
+// Prints the listing of a run, which is laid over the buffer, or the refusal.
+fn show_run(
+    rt: &impl Print,
+    asked: Asked,
+    config: Config,
+    out: &mut [u8; LISTING_SIZE],
+) -> io::Result<()> {
     let mut logs = [0u8; LOG_SIZE];
     let mut records = [0u64; RECORDS_SIZE];
     let mut snapshots = [0u64; LISTED_SIZE];
     match run(asked, config, &mut logs, &mut records, &mut snapshots) {
         Ok(summary) => {
-            let mut out = [0u8; LISTING_SIZE];
-            let size = write_listing(summary, &records, &snapshots, &logs, &mut out);
+            let size = write_listing(summary, &records, &snapshots, &logs, out);
             rt.write_all(&out[..size])
         }
         Err(refusal) => println!(rt; "{refusal}"),
@@ -96,10 +98,10 @@ fn show_unreadable(rt: &impl Print) -> io::Result<()> {
 }
 
 // The answer to a line `rows NODES SETS`, followed by the configuration: what `show` prints of them.
-fn answer_rows<F: Fn(Asked, Config) -> io::Result<()>>(
+fn answer_rows<F: FnMut(Asked, Config) -> io::Result<()>>(
     rt: &impl Print,
     line: &[u8],
-    show: F,
+    mut show: F,
 ) -> io::Result<()>
     requires { F.IsAlwaysCallable show }
 {
@@ -116,6 +118,11 @@ fn answer_rows<F: Fn(Asked, Config) -> io::Result<()>>(
     }
 }
 
+// Whether a line is one of rows: no other begins with this letter.
+fn has_rows(line: &[u8]) -> bool {
+    line.first() == Some(&b'r')
+}
+
 // The answer to a line of rows, or to the program's, that begins at field k.
 fn answer_from<F: Fn(Asked, Config) -> io::Result<()>>(
     rt: &impl Print,
@@ -127,7 +134,7 @@ fn answer_from<F: Fn(Asked, Config) -> io::Result<()>>(
 {
     let at = field_start(line, k);
     let rest = &line[at..];
-    if rest.starts_with(ROWS) {
+    if has_rows(rest) {
         return answer_rows(rt, rest, show);
     }
     // No `From<Line>` for `Asked`: they are types of two crates, and neither uses the other.
@@ -141,12 +148,11 @@ fn answer_from<F: Fn(Asked, Config) -> io::Result<()>>(
 }
 
 // The answer to a line of rows, or to the program's, whose run is the program's own.
-fn answer_run(rt: &impl Print, line: &[u8]) -> io::Result<()> {
-    if line.starts_with(ROWS) {
-        return answer_rows(rt, line, |asked, config| show_run(rt, asked, config));
+fn answer_run(rt: &impl Print, line: &[u8], out: &mut [u8; LISTING_SIZE]) -> io::Result<()> {
+    if has_rows(line) {
+        return answer_rows(rt, line, |asked, config| show_run(rt, asked, config, out));
     }
-    let mut out = [0u8; LISTING_SIZE];
-    let size = program::answer(line, &mut out);
+    let size = program::answer(line, out);
     rt.write_all(&out[..size])
 }
 
@@ -160,10 +166,11 @@ fn seeds_in(line: &[u8]) -> Option<Seeds> {
     })
 }
 
-// The answer to a line, or to one behind `round K`, a sweep's seeds or `validity`.
-fn answer(rt: &impl Print, line: &[u8]) -> io::Result<()> {
-    match field(line, 0) {
-        b"sweep" => match seeds_in(line) {
+// The answer to a line, or to one behind `round K`, a sweep's seeds or `validity`. One letter tells: the third of `round` is none
+// of `rows`. A listing is laid over the buffer, which is filled once for all lines.
+fn answer(rt: &impl Print, line: &[u8], out: &mut [u8; LISTING_SIZE]) -> io::Result<()> {
+    match line {
+        [b's', ..] => match seeds_in(line) {
             Some(seeds) => answer_from(
                 rt,
                 line,
@@ -172,7 +179,13 @@ fn answer(rt: &impl Print, line: &[u8]) -> io::Result<()> {
             ),
             None => show_unreadable(rt),
         },
-        b"round" => match decimal(field(line, 1)) {
+        [b'v', ..] => answer_from(
+            rt,
+            line,
+            1,
+            |asked, config| show_validity(rt, asked, config),
+        ),
+        [_, _, b'u', ..] => match decimal(field(line, 1)) {
             Some(k) => answer_from(
                 rt,
                 line,
@@ -181,17 +194,17 @@ fn answer(rt: &impl Print, line: &[u8]) -> io::Result<()> {
             ),
             None => show_unreadable(rt),
         },
-        b"validity" => answer_from(
-            rt,
-            line,
-            1,
-            |asked, config| show_validity(rt, asked, config),
-        ),
-        _ => answer_run(rt, line),
+        _ => answer_run(rt, line, out),
     }
 }
 
-// A failed write ends it, and is told by nothing else: what is printed is compared.
+// A write that fails ends nothing, and nobody is told: what is printed is compared.
 fn main(rt: HostRuntime) {
-    let _ = answer_lines(&rt, &mut [0u8; INPUT_SIZE], |line| answer(&rt, line));
+    let to = Unfailing(&rt);
+    let mut out = [0u8; LISTING_SIZE];
+    let _ = answer_lines(
+        &rt,
+        &mut [0u8; INPUT_SIZE],
+        |line| answer(&to, line, &mut out),
+    );
 }

@@ -1,6 +1,8 @@
 // Standard input, output and error, as the programs use them. No contract can say which bytes are read or written.
 #![tactic(auto)]
 
+pub mod unfailing;
+
 ghost use Rattle.std.specs.Prelude.{◌≤◌, IfSome, length};
 
 use std::io;
@@ -8,7 +10,7 @@ use std::io::{Print, Read};
 
 // Reads until the input has ended, the buffer is full or a read fails, or what a read brought is enough. Says how many bytes
 // then stand at the buffer's start, and whether no read failed: `answer_lines` answers also what stands there when a read fails.
-fn read_until<R: Read, F: Fn(&[u8]) -> bool>(
+pub fn read_until<R: Read, F: Fn(&[u8]) -> bool>(
     from: &mut R,
     buf: &mut [u8],
     enough: &F,
@@ -59,10 +61,10 @@ pub fn give_answer(rt: &HostRuntime, program: &str, answer: &[u8]) {
 }
 
 // Answers each line of what standard input brings, as far as the buffer holds it. What a failed read leaves is answered too.
-pub fn answer_lines<F: Fn(&[u8]) -> io::Result<()>>(
+pub fn answer_lines<F: FnMut(&[u8]) -> io::Result<()>>(
     rt: &HostRuntime,
     buf: &mut [u8],
-    answer: F,
+    mut answer: F,
 ) -> io::Result<()>
     requires { F.IsAlwaysCallable answer }
 {
