@@ -68,5 +68,9 @@ impl Graph {
 pub fn measure(rows: &[u32], n: u64) -> Result<usize, Refusal>
     ensures { result ≡ measured rows.now n }
 {
-    Ok(checked_graph(rows, n)?.diameter())
+    // By reference: a graph that goes up by `?` is copied twice.
+    match &checked_graph(rows, n) {
+        Ok(graph) => Ok(graph.diameter()),
+        Err(refusal) => Err(*refusal),
+    }
 }

@@ -1,12 +1,13 @@
 -- Texts laid behind each other. Assumes nothing.
-use Prim.Native.Nat.{ℕ, suc, ◌+◌, ◌*◌, ◌≤◌, ◌<◌}
+use Prim.Native.Nat.{ℕ, suc, ◌+◌, ◌-◌, ◌*◌, ◌≤◌, ◌<◌}
 use mathlib.Core.Path.{◌≡◌, refl, sym, ap, subst, ◌∙◌}
-use mathlib.Core.List.{List, [], ◌∷◌, ◌++◌}
+use mathlib.Core.List.{List, [], ◌∷◌, ◌++◌, append_assoc}
 use native.Mathlib.Nat.{mul-suc, mul_comm, mul-le-mul_left, zero-add, le_antisymm}
 use native.Mathlib.Numerals.{add-one}
 use native.Mathlib.Omega.{arith}
 use lib.ListN.{length, get_or, take, drop, set, length-append}
 use lib.Seq.{sets, sets-eq, take-append_seam, take-suc}
+use borrow.Rule.Slice.PartMut.{put_mid, Post-is}
 use Rattle.text.specs.Text.{each}
 use Rattle.text.specs.declared.overlay.Overlay.{Overlay}
 use Rattle.text.specs.Overlay.{Lays, Written, Room}
@@ -63,6 +64,13 @@ module _ {m : ℕ} {s : List ℕ} {o o' : Overlay} (a : Lays m s o o') where
 -- a text, and behind it what the buffer had there
 pub front_sets : (l s : List ℕ) → length s ≤ length l → s ++ drop (length s) l ≡ sets l 0 s
 front_sets l s h = sym (rw (sets-eq s l 0 (omega arith), zero-add (length s)) refl)
+
+-- a text that is copied to a part of a buffer as long as it
+pub part_sets : (l s : List ℕ) (at e : ℕ) → e ≡ at + length s → e ≤ length l → put_mid at (e - at) l s ≡ sets l at s
+part_sets l s at e is fits =
+    ap (λ (rest : List ℕ). take at l ++ (s ++ rest)) (Post-is at e l (omega (arith, is)) ∙ ap (λ (k : ℕ). drop k l) is)
+    ∙ sym (append_assoc (take at l) s (drop (at + length s) l))
+    ∙ sym (sets-eq s l at (omega (arith, is, fits)))
 
 -- the text is at the buffer's start
 pub front_is : (l s : List ℕ) → length s ≤ length l → take (length s) (sets l 0 s) ≡ s

@@ -1,6 +1,6 @@
 -- The rows that passed have the diameter of those that were given.
 use Rattle.std.proofs.Common.{sym, ap, ◌∙◌, Ok}
-use Rattle.config.proofs.Unless.{still_refused, not_refused, goes_up}
+use Rattle.config.proofs.Unless.{still_refused, not_refused}
 use Rattle.network.specs.Graph.{widened}
 use Rattle.network.specs.Questions.{first_no, rows_questions}
 use Rattle.network.specs.Topology.{graph_of}
@@ -11,22 +11,21 @@ use Rattle.network.proofs.Rows.{get_d_widened}
 use Rattle.network.proofs.Checks.{diameter_agree}
 use Rattle.network.proofs.distance.measure.Goals as goal
 
-pub returns-in_err-checked_graph : goal.returns-in_err-checked_graph
+pub returns-in-Err : goal.returns-in-Err
 unfolding measured
-returns-in_err-checked_graph c =
+returns-in-Err c =
     let a = c.args in
-    goes_up _ c.from_residual.ensures.1
-    ∙ still_refused (graph_of a.rows.now a.n) (diameter a.rows.now a.n) (first_no (rows_questions a.rows.now a.n)) _ c.in_err-checked_graph.ensures
+    still_refused (graph_of a.rows.now a.n) (diameter a.rows.now a.n) (first_no (rows_questions a.rows.now a.n)) _ (sym c.in-Err.is ∙ c.checked_graph.ensures)
 
 pub diameter-requires : goal.diameter-requires
-diameter-requires c = let g = (checked_is c.args.rows.now c.args.n _ (sym c.in_ok-checked_graph.ensures)).2 in (g.few, g.checked)
+diameter-requires c = let g = (checked_is c.args.rows.now c.args.n _ (sym c.checked_graph.ensures ∙ c.in-Ok.is)).2 in (g.few, g.checked)
 
-pub returns : goal.returns
+pub returns-in-Ok : goal.returns-in-Ok
 unfolding measured
-returns c =
+returns-in-Ok c =
     let rows = c.args.rows.now in
     let n = c.args.n in
-    let f = checked_is rows n _ (sym c.in_ok-checked_graph.ensures) in
+    let f = checked_is rows n _ (sym c.checked_graph.ensures ∙ c.in-Ok.is) in
     let enough = (rows_sized rows n f.0).1.enough in
     ap Ok
     (c.diameter.ensures
