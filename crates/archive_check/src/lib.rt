@@ -14,7 +14,8 @@ ghost use Rattle.archive_check.specs.Check.{check_of};
 
 use again::gives_again;
 use archive::inputs::{Inputs, inputs_in};
-use archive::layout::{Filed, Section};
+use archive::layout::Filed;
+use archive::reader::inputs_of;
 use archive_writer::network_of;
 use config::refusal::Refusal;
 use rounds::run::Plan;
@@ -39,6 +40,6 @@ pub fn check_file(file: &[u8]) -> Result<bool, Refusal>
     ensures { result ≡ check_of file.now }
 {
     let file = Filed::of(file)?;
-    let inputs = inputs_in(file.part(Section::Inputs));
+    let inputs = inputs_in(inputs_of(file.bytes));
     Ok(runs_again(inputs, file).unwrap_or(false))
 }

@@ -10,7 +10,7 @@ use Rattle.archive.specs.Inputs.{inputs_in}
 use Rattle.archive_writer.specs.Filed.{network_in}
 use Rattle.archive_check.specs.Again.{gives_again, again_unless, again_for}
 use Rattle.archive_check.specs.Check.{asked_in}
-use Rattle.archive.proofs.Orders.{inputs_long, kept_as}
+use Rattle.archive.proofs.Orders.{handed_inputs, length_inputs, kept_as}
 use Rattle.archive_check.proofs.Checks.{check_broken, checks_again}
 use Rattle.config.proofs.Unless.{goes_up}
 use Rattle.archive_check.proofs.check_file.Goals as goal
@@ -23,7 +23,7 @@ returns-in_err-file c =
 pub inputs_in-inputs-requires : goal.inputs_in-inputs-requires
 inputs_in-inputs-requires c =
     let file = c.in_ok-file.file in
-    omega (arith, ap length c.part.ensures, inputs_long file.bytes.now file.kept)
+    omega (arith, ap length c.inputs_of.ensures, length_inputs file.bytes.now file.kept)
 
 -- a run that is refused gives nothing again
 unwrapped : (o : Option Refusal) (g : Given) (file : List ℕ) → result_unwrap_or (unless o (gives_again g file)) false ≡ again_unless o g file
@@ -35,7 +35,8 @@ unfolding again_for
 returns c =
     let file = c.in_ok-file.file in
     let bytes = ap (λ (b : Bor (List ℕ)). b.now) c.in_ok-file.ensures in
-    let inputs = c.inputs_in-inputs.ensures ∙ ap inputs_in c.part.ensures ∙ ap asked_in bytes in
+    let first = c.inputs_of.ensures ∙ handed_inputs file.bytes.now file.kept in
+    let inputs = c.inputs_in-inputs.ensures ∙ ap inputs_in first ∙ ap asked_in bytes in
     ap Ok
     (c.unwrap_or.ensures
     ∙ ap (λ (r : Result Bool Refusal). result_unwrap_or r false) c.runs_again.ensures
