@@ -118,7 +118,7 @@ fn answer_rows<F: FnMut(Asked, Config) -> io::Result<()>>(
     }
 }
 
-// Whether a line is one of rows: no other begins with this letter.
+// Whether a line that asks for no round is one of rows: no other begins with this letter.
 fn has_rows(line: &[u8]) -> bool {
     line.first() == Some(&b'r')
 }
